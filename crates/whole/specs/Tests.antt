@@ -1,0 +1,132 @@
+-- Tests of whole numbers, as flags. To cite:
+--   ltZ-true, ltZ-false, leZ-true, leZ-false, eqZ-true, eqZ-false   what a flag says
+--   lt-ltZ, le-ltZ, le-leZ, lt-leZ, eq-eqZ, ne-eqZ                  the flag from what holds
+--   out, out-is, out-ok         a number as it comes out of a local is the number
+--   lt-flag, le-flag            the flag of two numbers out of locals is that of the numbers
+--   lt-taken, lt-left, le-taken, le-left, eq-taken, eq-left         a branch of the code, as an order or an equation
+-- Assumes nothing.
+use mathlib.Core.Path.{_≡_, refl, sym, _∙_, ap, ap₂, subst}
+use mathlib.Core.Bool.{Bool, true, false, not, true≢false}
+use Prim.Native.Nat.{ℕ, _<_, _^_}
+use lib.Dec.{T, eqb}
+use lib.IntN.{ℤ, pos, negsuc, natAbs, pos-ne-negsuc}
+use lib.Signed.{mag, ltZ, leZ, _≤ℤ_, _<ℤ_, ltZ-yes, ltZ-no, leZ-yes, clashℤ}
+use borrow.Author.Tests.{eqb-true, eqb-false, eq-eqb, ne-eqb}
+use mir.Syntax.{w64}
+use mir.Val.{SFits, toZ, ofZ, hbits}
+use mir.ValLaws.{toZ-ofZ}
+use Rattle.whole.specs.Order.{≤-antisym, <-≤, le-or-lt}
+use mathlib.Core.Logic.{_⊎_, inl, inr}
+
+-- ---- flags of numbers
+
+yes : {b : Bool} → b ≡ true → T b
+yes e = subst T (sym e) tt
+
+no : {b : Bool} → b ≡ false → T (not b)
+no e = subst (λ (b : Bool). T (not b)) (sym e) tt
+
+true-of : (b : Bool) → T b → b ≡ true
+true-of true t = refl
+true-of false t = absurd t
+
+pub ltZ-true : {a b : ℤ} → ltZ a b ≡ true → a <ℤ b
+ltZ-true e = ltZ-yes (yes e)
+
+pub ltZ-false : {a b : ℤ} → ltZ a b ≡ false → b ≤ℤ a
+ltZ-false e = ltZ-no (no e)
+
+pub leZ-true : {a b : ℤ} → leZ a b ≡ true → a ≤ℤ b
+leZ-true e = leZ-yes (yes e)
+
+pub lt-ltZ : {a b : ℤ} → a <ℤ b → ltZ a b ≡ true
+lt-ltZ {a} {b} h = true-of (ltZ a b) (h .lt)
+
+pub le-leZ : {a b : ℤ} → a ≤ℤ b → leZ a b ≡ true
+le-leZ {a} {b} h = true-of (leZ a b) (h .le)
+
+pub le-ltZ : {a b : ℤ} → b ≤ℤ a → ltZ a b ≡ false
+le-ltZ {a} {b} h = go (ltZ a b) (λ e. ltZ-true e)
+  where
+    go : (t : Bool) → (t ≡ true → a <ℤ b) → t ≡ false
+    go true f = absurd (clashℤ (f refl) h)
+    go false f = refl
+
+pub lt-leZ : {a b : ℤ} → b <ℤ a → leZ a b ≡ false
+lt-leZ {a} {b} h = go (leZ a b) (λ e. leZ-true e)
+  where
+    go : (t : Bool) → (t ≡ true → a ≤ℤ b) → t ≡ false
+    go true f = absurd (clashℤ h (f refl))
+    go false f = refl
+
+pub leZ-false : {a b : ℤ} → leZ a b ≡ false → b <ℤ a
+leZ-false {a} {b} e = go (le-or-lt a b)
+  where
+    go : (a ≤ℤ b) ⊎ (b <ℤ a) → b <ℤ a
+    go (inl h) = absurd (true≢false (sym (le-leZ h) ∙ e))
+    go (inr h) = h
+
+abbrev pub eqZ : ℤ → ℤ → Bool
+eqZ (pos a) (pos b) = eqb a b
+eqZ (pos a) (negsuc b) = false
+eqZ (negsuc a) (pos b) = false
+eqZ (negsuc a) (negsuc b) = eqb a b
+
+pub eqZ-true : {a b : ℤ} → eqZ a b ≡ true → a ≡ b
+eqZ-true {a = pos a} {b = pos b} e = ap pos (eqb-true a b e)
+eqZ-true {a = pos a} {b = negsuc b} e = absurd (true≢false (sym e))
+eqZ-true {a = negsuc a} {b = pos b} e = absurd (true≢false (sym e))
+eqZ-true {a = negsuc a} {b = negsuc b} e = ap negsuc (eqb-true a b e)
+
+same : (a : ℤ) → eqZ a a ≡ true
+same (pos a) = eq-eqb a a refl
+same (negsuc a) = eq-eqb a a refl
+
+pub eq-eqZ : {a b : ℤ} → a ≡ b → eqZ a b ≡ true
+eq-eqZ {a} {b} e = subst (λ (z : ℤ). eqZ a z ≡ true) e (same a)
+
+pub ne-eqZ : {a b : ℤ} → (a ≡ b → ⊥) → eqZ a b ≡ false
+ne-eqZ {a} {b} n = go (eqZ a b) (λ e. n (eqZ-true e))
+  where
+    go : (t : Bool) → (t ≡ true → ⊥) → t ≡ false
+    go true f = absurd (f refl)
+    go false f = refl
+
+pub eqZ-false : {a b : ℤ} → eqZ a b ≡ false → a ≡ b → ⊥
+eqZ-false f e = true≢false (sym (eq-eqZ e) ∙ f)
+
+-- ---- numbers out of locals
+
+abbrev pub out : ℤ → ℤ
+out z = toZ w64 (ofZ w64 z)
+
+pub out-is : {z : ℤ} → SFits w64 z → out z ≡ z
+out-is {z} f = toZ-ofZ w64 z f
+
+-- a call's result, from its `.ok`
+pub out-ok : (z : ℤ) → mag z < 2 ^ hbits w64 → out z ≡ z
+out-ok z h = toZ-ofZ w64 z (record { sfits = h })
+
+pub lt-flag : {x y : ℤ} {t : Bool} → SFits w64 x → SFits w64 y → ltZ (out x) (out y) ≡ t → ltZ x y ≡ t
+lt-flag f g e = ap₂ ltZ (sym (out-is f)) (sym (out-is g)) ∙ e
+
+pub le-flag : {x y : ℤ} {t : Bool} → SFits w64 x → SFits w64 y → leZ (out x) (out y) ≡ t → leZ x y ≡ t
+le-flag f g e = ap₂ leZ (sym (out-is f)) (sym (out-is g)) ∙ e
+
+pub lt-taken : {x y : ℤ} → SFits w64 x → SFits w64 y → ltZ (out x) (out y) ≡ true → x <ℤ y
+lt-taken f g e = ltZ-true (lt-flag f g e)
+
+pub lt-left : {x y : ℤ} → SFits w64 x → SFits w64 y → ltZ (out x) (out y) ≡ false → y ≤ℤ x
+lt-left f g e = ltZ-false (lt-flag f g e)
+
+pub le-taken : {x y : ℤ} → SFits w64 x → SFits w64 y → leZ (out x) (out y) ≡ true → x ≤ℤ y
+le-taken f g e = leZ-true (le-flag f g e)
+
+pub le-left : {x y : ℤ} → SFits w64 x → SFits w64 y → leZ (out x) (out y) ≡ false → y <ℤ x
+le-left f g e = leZ-false (le-flag f g e)
+
+pub eq-taken : {x y : ℤ} → SFits w64 x → SFits w64 y → ofZ w64 x ≡ ofZ w64 y → x ≡ y
+eq-taken f g e = sym (out-is f) ∙ ap (toZ w64) e ∙ out-is g
+
+pub eq-left : {x y : ℤ} → (ofZ w64 x ≡ ofZ w64 y → ⊥) → x ≡ y → ⊥
+eq-left n e = n (ap (ofZ w64) e)
