@@ -1,17 +1,17 @@
 -- `Within n z`: z is at most n away from 0. To cite:
---   w-add, w-sub, w-neg, w-mul, w-pos, w-negsuc, w-sgn   the operations
---   w-weak, w-lit            a larger bound; between literals
+--   w-add, w-sub, w-neg, w-mul, w-pos, w-negsuc, w-sgn, w-quot, w-size   the operations
+--   w-weak, w-lit, w-is      a larger bound; between literals; in other words
 --   w-upper, w-lower, w-intro   as two orders
 --   fits64, of-fits          such a number fits an i64, and what fits is within 2 ^ 63
 -- Assumes nothing.
 use mathlib.Core.Path.{_≡_, refl, sym, ap, subst}
 use mathlib.Core.Bool.{Bool, true, false, cond}
-use Prim.Native.Nat.{ℕ, zero, suc, _+_, _*_, _-_, _^_, _≤_, _<_}
-use native.Mathlib.Nat.{le-trans, le-of-eq, le-refl, le-suc, mul-le-mul}
+use Prim.Native.Nat.{ℕ, zero, suc, _+_, _*_, _-_, _/_, _^_, _≤_, _<_}
+use native.Mathlib.Nat.{le-trans, le-of-eq, le-refl, le-suc, mul-le-mul, div-le-self}
 use native.Mathlib.Omega.{arith}
 use lib.Dec.{T, ltb, leb, ltb→lt, leb→le}
 use lib.IntN.{ℤ, pos, negsuc, negℤ, natAbs, subℕ, _+ℤ_, _-ℤ_, _*ℤ_, negℤ-negℤ}
-use lib.Signed.{mag, natAbs-le, _≤ℤ_, leZ-yes}
+use lib.Signed.{mag, natAbs-le, quotZ, _≤ℤ_, leZ-yes}
 use mir.Syntax.{w64}
 use mir.Val.{SFits}
 use Rattle.whole.specs.Order.{le-intro, ≤-trans, ≤-neg}
@@ -65,6 +65,10 @@ w-negsuc n = record { within = le-refl (suc n) }
 pub w-weak : {m n : ℕ} {a : ℤ} → Within m a → m ≤ n → Within n a
 w-weak h l = record { within = le-trans (h .within) l }
 
+-- of the same number in other words
+pub w-is : {n : ℕ} {a b : ℤ} → a ≡ b → Within n b → Within n a
+w-is {n} e h = subst (Within n) (sym e) h
+
 -- between literals
 pub w-lit : {m n : ℕ} {a : ℤ} → Within m a → T (leb m n) → Within n a
 w-lit {m} {n} h t = w-weak h (leb→le m n t)
@@ -110,3 +114,13 @@ unfolding sgn
 w-sgn (pos zero) = record { within = le-suc 0 }
 w-sgn (pos (suc n)) = record { within = le-refl 1 }
 w-sgn (negsuc n) = record { within = le-refl 1 }
+
+-- a quotient, rounded toward zero
+pub w-quot : {m : ℕ} {a : ℤ} (b : ℤ) → Within m a → Within m (quotZ a b)
+w-quot {m} {a = pos a} (pos b) h = record { within = le-trans (div-le-self a b) (h .within) }
+w-quot {m} {a = pos a} (negsuc b) h = w-neg {a = pos (a / suc b)} (record { within = le-trans (div-le-self a (suc b)) (h .within) })
+w-quot {m} {a = negsuc a} (pos b) h = w-neg {a = pos (suc a / b)} (record { within = le-trans (div-le-self (suc a) b) (h .within) })
+w-quot {m} {a = negsuc a} (negsuc b) h = record { within = le-trans (div-le-self (suc a) (suc b)) (h .within) }
+
+pub w-size : {m : ℕ} {a : ℤ} → Within m a → Within m (pos (natAbs a))
+w-size h = record { within = h .within }

@@ -7,8 +7,8 @@
 -- The factors are worked out on paper; what is left is one identity for `reify`. Assumes nothing.
 use mathlib.Core.Path.{_≡_, refl, sym, _∙_, ap, ap₂, subst}
 use mathlib.Core.Logic.{_⊎_, inl, inr}
-use mathlib.Core.List.{List, [], _∷_}
-use lib.IntN.{ℤ, pos, negsuc, negℤ, _+ℤ_, _-ℤ_, _*ℤ_, *ℤ-zero, +ℤ-invr}
+use mathlib.Core.List.{[], _∷_}
+use lib.IntN.{ℤ, pos, negℤ, _+ℤ_, _-ℤ_, _*ℤ_, *ℤ-zero, +ℤ-invr}
 use lib.Signed.{_≤ℤ_, _<ℤ_, ≤ℤ-refl, clashℤ}
 use Rattle.whole.specs.Laws.{eq-of-sub}
 use Rattle.whole.specs.Reify.{reify, reading, solve, val-pos}

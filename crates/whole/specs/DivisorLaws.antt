@@ -2,7 +2,7 @@
 --   gcd-zero, gcd-step           a step of the remainders keeps it
 --   gcd-is, gcdOf-is             what is found is one
 --   gcd-unique, gcdOf-unique     there is only one
---   gcdOf-also                   one number more, at the end of the list
+--   gcdOf-also, gcdOf-fold       one number more, at the end of the list; five numbers, folded
 --   gcdOf-times                  of a list times c it is |c| times
 --   over-one, over-back          divided by it the list has divisor 1; times it the list is back
 --   same-numbers                 two lists of divisor 1 that are proportional are equal
@@ -10,17 +10,17 @@
 use mathlib.Core.Path.{_≡_, refl, sym, _∙_, ap, ap₂, subst}
 use mathlib.Core.Bool.{Bool, true, false}
 use mathlib.Core.List.{List, [], _∷_, _++_}
-use Prim.Native.Nat.{ℕ, zero, suc, _+_, _*_, _/_, _%_, _∣_, _≤_, _<_}
-use native.Mathlib.Nat.{dvd-refl, dvd-zero, dvd-trans, dvd-mod-iff, dvd-antisymm, dvd-mul-right, dvd-mul-right-of-dvd, mul-dvd-mul-left, dvd-of-mul-dvd-mul-left, mod-lt, div-mul-cancel, eq-of-mul-eq-mul-left, mul-comm, mul-one, eq-zero-of-zero-dvd}
+use Prim.Native.Nat.{ℕ, zero, suc, _*_, _/_, _%_, _∣_, _<_}
+use native.Mathlib.Nat.{dvd-refl, dvd-zero, dvd-trans, dvd-mod-iff, dvd-antisymm, dvd-mul-right, mul-dvd-mul-left, dvd-of-mul-dvd-mul-left, mod-lt, div-mul-cancel, eq-of-mul-eq-mul-left, mul-comm, mul-one, eq-zero-of-zero-dvd}
 use native.Mathlib.Omega.{arith}
-use lib.Dec.{T, eqb, eqb→eq}
-use lib.IntN.{ℤ, pos, negsuc, negℤ, natAbs, _+ℤ_, _-ℤ_, _*ℤ_}
+use lib.Dec.{eqb}
+use lib.IntN.{ℤ, pos, negsuc, negℤ, natAbs, _*ℤ_}
 use lib.Signed.{_<ℤ_, quotZ}
 use borrow.Author.Tests.{eqb-true, eqb-false}
 use Rattle.whole.specs.Laws.{mul-neg}
-use Rattle.whole.specs.Order.{pp-dest, pp-pos}
+use Rattle.whole.specs.Order.{pp-dest}
 use Rattle.whole.specs.Cert.{mul-cancel}
-use Rattle.whole.specs.Bound.{natAbs-mul, natAbs-neg}
+use Rattle.whole.specs.Bound.{natAbs-mul}
 use Rattle.whole.specs.Divisor.{IsGcd, DividesAll, none, _also_, IsGcdOf, steps, gcd, gcdOf, times, over}
 
 -- ---- of two
@@ -102,6 +102,17 @@ gcdOf-also {zs} z {g} {h} p q = record {
   each = all-snoc z zs (all-trans (q .left) (p .each)) (q .right);
   most = λ d ds. q .most d (p .most d (all-front z zs ds)) (all-last z zs ds);
 }
+
+pub gcdOf-single : (z : ℤ) → IsGcdOf (z ∷ []) (natAbs z)
+gcdOf-single z = record { each = dvd-refl (natAbs z) also none; most = λ d ds. all-head ds }
+
+-- ... over five numbers
+pub gcdOf-fold :
+    (a b c d e : ℤ) {g h i j : ℕ} → IsGcd (natAbs a) (natAbs b) g → IsGcd g (natAbs c) h → IsGcd h (natAbs d) i
+    → IsGcd i (natAbs e) j → j ≡ gcdOf (a ∷ b ∷ c ∷ d ∷ e ∷ [])
+gcdOf-fold a b c d e p q r s =
+    gcdOf-unique (gcdOf-also e (gcdOf-also d (gcdOf-also c (gcdOf-also b (gcdOf-single a) p) q) r) s)
+    (gcdOf-is (a ∷ b ∷ c ∷ d ∷ e ∷ []))
 
 -- ---- a factor
 

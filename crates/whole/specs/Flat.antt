@@ -5,7 +5,8 @@
 --   need               an operation does not wrap:  `need bounds e tt`, e as the code writes it
 --   gives, raw-is      the value that is read; the value before it is stored
 --   lt-gives, le-gives, eq-gives, ne-gives   a test of two expressions
---   small              the value is within the bound that `bnd` computes
+--   back               a bounded number out of a local is the number
+--   small, held        the value, and what is read, is within the bound that `bnd` computes
 -- Assumes nothing.
 use mathlib.Core.Path.{_≡_, refl, sym, _∙_, ap, ap₂, subst}
 use mathlib.Core.List.{List, [], _∷_}
@@ -13,12 +14,12 @@ use mathlib.Core.Bool.{Bool, true, false, _&&_}
 use Prim.Native.Nat.{ℕ, zero, suc, _+_, _*_, _^_}
 use native.Mathlib.Nat.{le-refl}
 use lib.Dec.{T, ltb}
-use lib.IntN.{ℤ, pos, negsuc, negℤ, natAbs, _+ℤ_, _-ℤ_, _*ℤ_}
+use lib.IntN.{ℤ, pos, negℤ, natAbs, _+ℤ_, _-ℤ_, _*ℤ_}
 use lib.Signed.{ltZ, leZ}
 use mir.Syntax.{w64}
 use mir.Val.{SFits, ofZ}
 use Rattle.whole.specs.Ring.{Expr, var, con, lit, _⊕_, _⊖_, _⊗_, ⊝_, at, ev}
-use Rattle.whole.specs.Bound.{Within, fits64, w-add, w-sub, w-neg, w-mul, w-pos}
+use Rattle.whole.specs.Bound.{Within, fits64, w-is, w-add, w-sub, w-neg, w-mul, w-pos}
 use Rattle.whole.specs.Tests.{out, out-is, eq-taken, eq-left}
 
 -- a bound for each number: data, so that the two lists are inferred from it
@@ -133,6 +134,10 @@ module _ {β : List ℕ} {ρ : List ℤ} (h : All β ρ) where
   pub small : (e : Expr) → T (okay β e) → Within (bnd β e) (ev ρ e)
   small e t = sound β ρ h e t .small
 
+  -- the same of the value that is read
+  pub held : (e : Expr) → T (okay β e) → Within (bnd β e) (mach ρ e)
+  held e t = w-is (gives e t) (small e t)
+
   pub lt-gives : {f : Bool} (a b : Expr) → T (okay β a) → T (okay β b) → ltZ (mach ρ a) (mach ρ b) ≡ f → ltZ (ev ρ a) (ev ρ b) ≡ f
   lt-gives a b t u e = ap₂ ltZ (sym (gives a t)) (sym (gives b u)) ∙ e
 
@@ -145,3 +150,7 @@ module _ {β : List ℕ} {ρ : List ℤ} (h : All β ρ) where
 
   pub ne-gives : (a b : Expr) → T (okay β a) → T (okay β b) → (ofZ w64 (raw ρ a) ≡ ofZ w64 (raw ρ b) → ⊥) → ev ρ a ≡ ev ρ b → ⊥
   ne-gives a b t u n e = eq-left n (raw-is a t ∙ e ∙ sym (raw-is b u))
+
+-- one number, as it comes out of a local
+pub back : {n : ℕ} {z : ℤ} → Within n z → T (ltb n (2 ^ 63)) → out z ≡ z
+back h t = out-is (fits64 h t)

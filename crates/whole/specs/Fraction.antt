@@ -1,6 +1,6 @@
 -- A fraction: a whole number over one above 0.
 use mathlib.Core.Path.{_≡_}
-use lib.IntN.{ℤ, pos, negsuc, negℤ, _+ℤ_, _*ℤ_}
+use lib.IntN.{ℤ, pos, negℤ, _+ℤ_, _*ℤ_}
 use lib.Signed.{_≤ℤ_, _<ℤ_}
 use Rattle.whole.specs.Order.{pp-mul}
 

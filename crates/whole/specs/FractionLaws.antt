@@ -4,10 +4,10 @@
 --   at-most-equal, less-equal                      order respects it on both sides
 --   at-most-trans, at-most-antisym, at-most-or-less   order is total, transitive, antisymmetric
 -- Assumes nothing.
-use mathlib.Core.Path.{_≡_, refl, sym, _∙_, ap}
+use mathlib.Core.Path.{refl, sym, _∙_, ap}
 use mathlib.Core.Logic.{_⊎_, inl, inr}
-use mathlib.Core.List.{List, [], _∷_}
-use lib.IntN.{ℤ, pos, negsuc, negℤ, _+ℤ_, _-ℤ_, _*ℤ_}
+use mathlib.Core.List.{[], _∷_}
+use lib.IntN.{negℤ, _*ℤ_}
 use lib.Signed.{_≤ℤ_, _<ℤ_}
 use Rattle.whole.specs.Laws.{neg-mul}
 use Rattle.whole.specs.Reify.{reify, reading, solve}

@@ -4,11 +4,11 @@
 --   lead-two         of degree two at the most, by the sizes that the two lower coefficients have
 --   two-zero         u R + v = 0 with v within n below R makes u and v 0
 -- Assumes nothing.
-use mathlib.Core.Path.{_≡_, refl, sym, _∙_, ap, subst}
-use mathlib.Core.List.{List, [], _∷_}
-use Prim.Native.Nat.{ℕ, zero, suc}
+use mathlib.Core.Path.{_≡_, sym, _∙_, ap, subst}
+use mathlib.Core.List.{[], _∷_}
+use Prim.Native.Nat.{ℕ}
 use native.Mathlib.Omega.{arith}
-use lib.IntN.{ℤ, pos, negsuc, negℤ, natAbs, _+ℤ_, _-ℤ_, _*ℤ_, +ℤ-idl, zero-*ℤ, negℤ-negℤ, pos-ne-negsuc}
+use lib.IntN.{ℤ, pos, negℤ, _+ℤ_, _*ℤ_, +ℤ-idl, zero-*ℤ, negℤ-negℤ}
 use lib.Signed.{_≤ℤ_, _<ℤ_}
 use Rattle.whole.specs.Ring.{var, _⊕_, _⊗_, ⊝_, ring}
 use Rattle.whole.specs.Reify.{reify, reading, solve, val-pos, val-negsuc}
@@ -18,6 +18,7 @@ use Rattle.whole.specs.SignLaws.{sgn-pos, sgn-neg-eq, sgn-zero, zero-of-
 use Rattle.whole.specs.Linear.{diffs, split}
 use Rattle.whole.specs.Bound.{Within, w-upper, w-neg}
 use Rattle.whole.specs.Poly.{Poly, value, first, leading}
+use Rattle.whole.specs.PolyLaws.{first-zero}
 
 -- |c| is at most n, and n is below R
 pub record Small (R c : ℤ) : Type 0 where
@@ -89,14 +90,6 @@ pub lead-two : {m n : ℕ} (a b c R : ℤ) → Within m b → Within n c → pos
 lead-two a b c R hb hc mR nR = lead R (small hc nR under small hb mR under highest)
 
 -- ---- u R + v = 0
-
-first-zero : (s t : ℤ) → first s t ≡ pos 0 → (s ≡ pos 0) × (t ≡ pos 0)
-first-zero (pos zero) t e = (refl, e)
-first-zero (pos (suc n)) t e = (e, absurd (clash (ap natAbs e)))
-  where
-    clash : suc n ≡ 0 → ⊥
-    clash e = omega arith
-first-zero (negsuc n) t e = absurd (pos-ne-negsuc 0 n (sym e))
 
 pub two-zero : (u v R : ℤ) → Small R v → u *ℤ R +ℤ v ≡ pos 0 → (u ≡ pos 0) × (v ≡ pos 0)
 two-zero u v R s e =

@@ -7,13 +7,13 @@
 -- Assumes nothing.
 use mathlib.Core.Path.{_≡_, refl, sym, _∙_, ap, ap₂, subst}
 use mathlib.Core.Logic.{_⊎_, inl, inr}
-use mathlib.Core.List.{List, [], _∷_}
+use mathlib.Core.List.{[], _∷_}
 use mathlib.Core.Bool.{Bool, true, false, not, cond}
 use Prim.Native.Nat.{ℕ, zero, suc, _+_, _*_, _-_, _≤_, _<_}
 use native.Mathlib.Omega.{arith}
 use lib.Dec.{T, ltb, leb→le, le→leb, ltb→lt, lt→ltb}
 use lib.IntN.{ℤ, pos, negsuc, negℤ, natAbs, _+ℤ_, _-ℤ_, _*ℤ_, sucℤ, +ℤ-idr, +ℤ-one, +ℤ-assoc}
-use lib.Signed.{_≤ℤ_, _<ℤ_, leZ, ltZ, leZ-yes, ltZ-yes, ltZ-no}
+use lib.Signed.{_≤ℤ_, _<ℤ_, leZ, ltZ, leZ-yes, ltZ-yes, ltZ-no, ≤ℤ-refl}
 use Rattle.whole.specs.Ring.{var, lit, _⊕_, _⊖_, ⊝_, ring}
 use Rattle.whole.specs.Reify.{reading, solve, reify}
 
@@ -157,6 +157,9 @@ pub ≤-<-trans : {a b c : ℤ} → a ≤ℤ b → b <ℤ c → a <ℤ c
 
 pub <-trans : {a b c : ℤ} → a <ℤ b → b <ℤ c → a <ℤ c
 <-trans {a} {b} {c} h k = lt-cert _ (pp-add (lt-pp k) (pp-nn (lt-pp h))) (reify (a ∷ b ∷ c ∷ []) (λ ρ v. simp (reading, v 0, v 1, v 2) (solve _ _ _ tt)))
+
+pub ≤-of : {a b : ℤ} → a ≡ b → a ≤ℤ b
+≤-of {a} e = subst (λ (z : ℤ). a ≤ℤ z) e (≤ℤ-refl a)
 
 pub <-≤ : {a b : ℤ} → a <ℤ b → a ≤ℤ b
 <-≤ {a} {b} h = le-cert _ (pp-nn (lt-pp h)) refl

@@ -1,6 +1,6 @@
 -- Polynomials in R, as lists of coefficients, the lowest first: (c ∷ b ∷ a ∷ []) is a R R + b R + c.
 use mathlib.Core.List.{List, [], _∷_}
-use Prim.Native.Nat.{ℕ, zero, suc}
+use Prim.Native.Nat.{zero, suc}
 use lib.IntN.{ℤ, pos, negsuc, negℤ, _+ℤ_, _*ℤ_}
 use Rattle.whole.specs.Sign.{sgn}
 

@@ -3,9 +3,9 @@
 -- Where the identity has literals, `val-pos ρ` and `val-negsuc ρ` join the list. An atom that holds another is read first, by a
 -- `simp` of its own. Assumes nothing.
 use mathlib.Core.Path.{_≡_, refl}
-use mathlib.Core.List.{List, [], _∷_}
+use mathlib.Core.List.{List}
 use Prim.Native.Nat.{ℕ, suc}
-use lib.IntN.{ℤ, pos, negsuc, negℤ, _+ℤ_, _-ℤ_, _*ℤ_}
+use lib.IntN.{ℤ, pos, negsuc, negℤ, _+ℤ_, _*ℤ_}
 use Rattle.whole.specs.Ring.{Expr, var, lit, _⊕_, _⊗_, ⊝_, at, ev, ring, Same}
 
 -- `ev`, shut

@@ -8,7 +8,7 @@ use mathlib.Core.Bool.{Bool, true, false}
 use Prim.Native.Nat.{ℕ, zero, suc, _+_, _*_, _^_, compare, Ordering, Ordering·lt, Ordering·eq, Ordering·gt}
 use lib.Dec.{T, leb, eqb, eqb→eq}
 use lib.IntN.{ℤ, pos, negsuc, negℤ, _+ℤ_, _-ℤ_, _*ℤ_, +ℤ-idl, +ℤ-idr, +ℤ-assoc, zero-*ℤ, *ℤ-zero, negℤ-+ℤ}
-use Rattle.whole.specs.Laws.{add-left-comm, add-cross, mul-distr, mul-distl, neg-mul, mul-neg, mul-assoc, mul-left-comm, mul-cross, mul-one, one-mul, eq-of-sub}
+use Rattle.whole.specs.Laws.{add-left-comm, add-cross, mul-distr, mul-distl, neg-mul, mul-assoc, mul-left-comm, mul-cross, mul-one, one-mul, eq-of-sub}
 
 infixl 6 _⊕_ _⊖_
 infixl 7 _⊗_

@@ -1,21 +1,22 @@
 -- Tests of whole numbers, as flags. To cite:
 --   ltZ-true, ltZ-false, leZ-true, leZ-false, eqZ-true, eqZ-false   what a flag says
 --   lt-ltZ, le-ltZ, le-leZ, lt-leZ, eq-eqZ, ne-eqZ                  the flag from what holds
---   out, out-is, out-ok         a number as it comes out of a local is the number
---   lt-flag, le-flag            the flag of two numbers out of locals is that of the numbers
+--   out, out-is, out-ok         a number as it comes out of a local is the number; fits-ok: a call's result fits
+--   lt-flag, le-flag, eq-flag, lit-flag   the flag of two numbers out of locals is that of the numbers
 --   lt-taken, lt-left, le-taken, le-left, eq-taken, eq-left         a branch of the code, as an order or an equation
 -- Assumes nothing.
 use mathlib.Core.Path.{_≡_, refl, sym, _∙_, ap, ap₂, subst}
 use mathlib.Core.Bool.{Bool, true, false, not, true≢false}
 use Prim.Native.Nat.{ℕ, _<_, _^_}
-use lib.Dec.{T, eqb}
-use lib.IntN.{ℤ, pos, negsuc, natAbs, pos-ne-negsuc}
+use lib.Dec.{T, eqb, ltb}
+use lib.IntN.{ℤ, pos, negsuc}
 use lib.Signed.{mag, ltZ, leZ, _≤ℤ_, _<ℤ_, ltZ-yes, ltZ-no, leZ-yes, clashℤ}
-use borrow.Author.Tests.{eqb-true, eqb-false, eq-eqb, ne-eqb}
+use borrow.Author.Tests.{eqb-true, eqb-false, eq-eqb}
 use mir.Syntax.{w64}
 use mir.Val.{SFits, toZ, ofZ, hbits}
 use mir.ValLaws.{toZ-ofZ}
-use Rattle.whole.specs.Order.{≤-antisym, <-≤, le-or-lt}
+use Rattle.whole.specs.Order.{le-or-lt}
+use Rattle.whole.specs.Bound.{fits64, w-pos}
 use mathlib.Core.Logic.{_⊎_, inl, inr}
 
 -- ---- flags of numbers
@@ -104,8 +105,11 @@ pub out-is : {z : ℤ} → SFits w64 z → out z ≡ z
 out-is {z} f = toZ-ofZ w64 z f
 
 -- a call's result, from its `.ok`
+pub fits-ok : (z : ℤ) → mag z < 2 ^ hbits w64 → SFits w64 z
+fits-ok z h = record { sfits = h }
+
 pub out-ok : (z : ℤ) → mag z < 2 ^ hbits w64 → out z ≡ z
-out-ok z h = toZ-ofZ w64 z (record { sfits = h })
+out-ok z h = out-is (fits-ok z h)
 
 pub lt-flag : {x y : ℤ} {t : Bool} → SFits w64 x → SFits w64 y → ltZ (out x) (out y) ≡ t → ltZ x y ≡ t
 lt-flag f g e = ap₂ ltZ (sym (out-is f)) (sym (out-is g)) ∙ e
@@ -130,3 +134,15 @@ eq-taken f g e = sym (out-is f) ∙ ap (toZ w64) e ∙ out-is g
 
 pub eq-left : {x y : ℤ} → (ofZ w64 x ≡ ofZ w64 y → ⊥) → x ≡ y → ⊥
 eq-left n e = n (ap (ofZ w64) e)
+
+-- `==` of two numbers, as a flag
+pub eq-flag : {x y : ℤ} → SFits w64 x → SFits w64 y → eqb (ofZ w64 x) (ofZ w64 y) ≡ eqZ x y
+eq-flag {x} {y} f g = go (eqb (ofZ w64 x) (ofZ w64 y)) (eqb-true (ofZ w64 x) (ofZ w64 y)) (eqb-false (ofZ w64 x) (ofZ w64 y))
+  where
+    go : (t : Bool) → (t ≡ true → ofZ w64 x ≡ ofZ w64 y) → (t ≡ false → ofZ w64 x ≡ ofZ w64 y → ⊥) → t ≡ eqZ x y
+    go true same other = sym (eq-eqZ (eq-taken f g (same refl)))
+    go false same other = sym (ne-eqZ {a = x} {b = y} (eq-left (other refl)))
+
+-- with a literal
+pub lit-flag : (n : ℕ) → T (ltb n (2 ^ 63)) → {x : ℤ} → SFits w64 x → eqb (ofZ w64 x) n ≡ eqZ x (pos n)
+lit-flag n t {x} f = eq-flag f (fits64 (w-pos n) t)

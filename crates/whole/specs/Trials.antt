@@ -1,9 +1,9 @@
 -- The solver tried on what the sheets need: the turn in powers of R, its antisymmetry, Cramer's rule; and each way of Linear and Cert
 -- on a small goal. docs/PROVING.md cites these.
-use mathlib.Core.Path.{_≡_, refl, sym, _∙_, ap, ap₂}
-use mathlib.Core.List.{List, [], _∷_}
+use mathlib.Core.Path.{_≡_}
+use mathlib.Core.List.{[], _∷_}
 use native.Mathlib.Omega.{arith}
-use lib.IntN.{ℤ, pos, negsuc, negℤ, _+ℤ_, _-ℤ_, _*ℤ_}
+use lib.IntN.{ℤ, pos, negℤ, _+ℤ_, _-ℤ_, _*ℤ_}
 use lib.Signed.{_≤ℤ_, _<ℤ_}
 use Rattle.whole.specs.Reify.{reify, reading, solve, val-pos, val-negsuc}
 use Rattle.whole.specs.Order.{lt-cert, le-nn, lt-pp, nn-add, nn-mul, nn-pos, pp-add}

@@ -1,6 +1,6 @@
 -- `gcd` meets its contract. The invariant: what is a greatest common divisor of x and y is one of a and b. The measure is y.
 use mathlib.Core.Path.{sym, subst}
-use Prim.Native.Nat.{ℕ, _<_}
+use Prim.Native.Nat.{ℕ}
 use native.Mathlib.Nat.{mod-lt}
 use native.Mathlib.Omega.{arith}
 use Rattle.whole.specs.Divisor.{IsGcd}

@@ -1,5 +1,5 @@
 -- `sign` meets its contract: each branch's test is an order or an equation of ℤ, which fixes the sign.
-use mathlib.Core.Path.{_≡_, sym}
+use mathlib.Core.Path.{sym}
 use Rattle.whole.specs.Order.{lt-of-le-ne}
 use Rattle.whole.specs.SignLaws.{sgn-neg, sgn-pos, sgn-zero}
 use Rattle.whole.specs.Bound.{fits64, w-pos}

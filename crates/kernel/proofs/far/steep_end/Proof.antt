@@ -1,0 +1,60 @@
+use mathlib.Core.Path.{_≡_, sym, _∙_, ap, subst}
+use mathlib.Core.List.{[], _∷_}
+use lib.IntN.{ℤ, pos, negℤ, _*ℤ_, +ℤ-idl}
+use lib.Signed.{_<ℤ_}
+use Rattle.whole.specs.Sign.{sgn}
+use Rattle.whole.specs.Ring.{var, lit, _⊖_, _⊗_}
+use Rattle.whole.specs.Flat.{All, none, _also_, need, gives, held}
+use Rattle.whole.specs.Bound.{w-is, w-lit, w-pos, w-sgn, w-size}
+use Rattle.whole.specs.Tests.{out, out-is, out-ok}
+use Rattle.sheet.specs.Points.{size, divided}
+use Rattle.kernel.specs.Forms.{steep-is}
+use borrow.Author.Needs.{needs}
+use Rattle.kernel.proofs.far.steep_end.Statement.{statement}
+use Rattle.kernel.proofs.far.steep_end.Tie as tie
+
+-- the sign and k; what the sign is; what w is
+factors : (c : tie.After-sign) → All (1 ∷ 16000000 ∷ []) (c .sign .result ∷ c .before .before .args .k ∷ [])
+factors c = w-is (c .sign .ensures) (w-sgn _) also c .before .before .pre .0 .bk also none
+
+turned : (c : tie.After-sign) → c .sign .result ≡ sgn (c .before .before .args .dy)
+turned c = c .sign .ensures ∙ ap sgn (out-is (c .before .before .fits .dy))
+
+wide : (c : tie.After-sign) → out (c .before .abs .result) ≡ size (c .before .before .args .dy)
+wide c = out-ok (c .before .abs .result) (c .before .abs .ok) ∙ c .before .abs .ensures ∙ ap size (out-is (c .before .before .fits .dy))
+
+abs-requires : tie.Need-abs-requires
+abs-requires c κs = held (c .pre .0 .bdy also none) (var 0) tt
+
+sign-requires : tie.Need-sign-requires
+sign-requires c κs = search needs
+
+mul-turned : tie.Need-mul-turned
+mul-turned c = need (factors c) (var 0 ⊗ var 1) tt
+
+sub-nx : tie.Need-sub-nx
+sub-nx c = need (factors c) (lit 0 ⊖ var 0 ⊗ var 1) tt
+
+divide-requires : tie.Need-divide-requires
+divide-requires c κs =
+    let s = c .before .before in
+    record {
+      bmx = w-lit (held (s .pre .0 .bdx also none) (var 0) tt) tt;
+      bnx = w-lit (held (factors c) (lit 0 ⊖ var 0 ⊗ var 1) tt) tt;
+      bmy = w-lit (held (s .pre .0 .bdy also none) (var 0) tt) tt;
+      bny = w-lit (w-pos 0) tt;
+      bw = w-lit (w-is (wide c) (w-size (s .pre .0 .bdy))) tt;
+      above = subst (λ (z : ℤ). pos 0 <ℤ z) (sym (wide c)) (s .pre .1);
+    }
+
+returns : tie.Need-returns
+returns c =
+    let d = c .before in
+    let s = d .before .before in
+    let n = gives (factors d) (lit 0 ⊖ var 0 ⊗ var 1) tt ∙ +ℤ-idl (negℤ (d .sign .result *ℤ s .args .k)) ∙ ap (λ (z : ℤ). negℤ (z *ℤ s .args .k)) (turned d) in
+    c .divide .ensures
+    ∙ ap divided ((λ i. record { mx = out-is (s .fits .dx) i; nx = n i; my = out-is (s .fits .dy) i; ny = pos 0; w = wide d i }) ∙ sym (steep-is (s .args .dx) (s .args .dy) (s .args .k)))
+
+pub steep-end-spec : {M : Type 1} → statement M
+steep-end-spec =
+    tie.close (tie.spec abs-requires sign-requires mul-turned sub-nx divide-requires returns)

@@ -1,0 +1,32 @@
+use mathlib.Core.Path.{sym, _∙_, ap}
+use Rattle.whole.specs.Sign.{sgn}
+use Rattle.whole.specs.SignLaws.{sgn-zero}
+use Rattle.whole.specs.Bound.{fits64, w-pos}
+use Rattle.whole.specs.Tests.{out-is, out-ok, eq-taken, eq-left}
+use Rattle.whole.specs.PolyLaws.{first-ne}
+use borrow.Author.Needs.{needs}
+use Rattle.kernel.proofs.lead.lead.Statement.{statement}
+use Rattle.kernel.proofs.lead.lead.Tie as tie
+
+sign-requires : tie.Need-sign-requires
+sign-requires c κs = search needs
+
+returns : tie.Need-returns
+returns c =
+    let s = c .before .before in
+    let zero = eq-taken (s .fits .a) (fits64 (w-pos 0) tt) (c .before .if1 .taken) in
+    out-ok (c .sign .result) (c .sign .ok)
+    ∙ simp (c .sign .ensures, out-is, s .fits .b, zero, sgn-zero)
+
+sign-requires-2 : tie.Need-sign-requires-2
+sign-requires-2 c κs = search needs
+
+returns-2 : tie.Need-returns-2
+returns-2 c =
+    let s = c .before .before in
+    out-ok (c .sign2 .result) (c .sign2 .ok)
+    ∙ c .sign2 .ensures ∙ ap sgn (out-is (s .fits .a))
+    ∙ sym (first-ne (s .args .a) (sgn (s .args .b)) (eq-left (c .before .if1 .left)))
+
+pub lead-spec : {M : Type 1} → statement M
+lead-spec = tie.close (tie.spec sign-requires returns sign-requires-2 returns-2)

@@ -1,0 +1,28 @@
+use Rattle.whole.specs.Tests.{out-is}
+use Rattle.sheet.specs.Points.{narrow}
+use borrow.Author.Needs.{needs}
+use Rattle.kernel.proofs.points.is_narrow.Statement.{statement}
+use Rattle.kernel.proofs.points.is_narrow.Tie as tie
+
+sub-is-between : tie.Need-sub-is-between
+sub-is-between c = search needs
+
+is-between-requires : tie.Need-is-between-requires
+is-between-requires c κs = search needs
+
+sub-is-between-2 : tie.Need-sub-is-between-2
+sub-is-between-2 c = search needs
+
+is-between-requires-2 : tie.Need-is-between-requires-2
+is-between-requires-2 c κs = search needs
+
+returns : tie.Need-returns
+unfolding narrow
+returns c =
+    let s = c .before .before in
+    simp (c .before .is-between .ensures, c .is-between2 .ensures, out-is, s .fits .nx, s .fits .ny, s .fits .w)
+
+pub is-narrow-spec : {M : Type 1} → statement M
+is-narrow-spec =
+    tie.close
+    (tie.spec sub-is-between is-between-requires sub-is-between-2 is-between-requires-2 returns)

@@ -1,0 +1,103 @@
+use mathlib.Core.Path.{sym, _∙_, ap, ap₂}
+use mathlib.Core.List.{[], _∷_}
+use lib.IntN.{ℤ, negℤ, +ℤ-idl}
+use Rattle.whole.specs.Sign.{sgn}
+use Rattle.whole.specs.Poly.{first}
+use Rattle.whole.specs.Ring.{var, lit, _⊕_, _⊖_}
+use Rattle.whole.specs.Flat.{All, none, _also_, need, gives}
+use Rattle.whole.specs.Bound.{fits64, w-pos}
+use Rattle.whole.specs.Tests.{out-ok, eq-taken, eq-left}
+use Rattle.sheet.specs.declared.Point.{Point}
+use Rattle.sheet.specs.Figure.{Side, side}
+use Rattle.sheet.specs.Signs.{sideOfFigure}
+use Rattle.sheet.specs.Expansions.{left-side-is, bottom-side-is, right-side-is, top-side-is}
+use Rattle.kernel.specs.Kinds.{side-one, side-two, side-three, side-four}
+use borrow.Author.Needs.{needs}
+use Rattle.kernel.proofs.signs.frame_side.Statement.{statement}
+use Rattle.kernel.proofs.signs.frame_side.Tie as tie
+
+abbrev point : tie.Start → Point
+point s = record { mx = s .args .mx; nx = s .args .nx; my = s .args .my; ny = s .args .ny; w = s .args .w }
+
+-- mx, nx, my, ny, w
+five :
+    (s : tie.Start) →
+    All (4000 ∷ 64000000000 ∷ 4000 ∷ 64000000000 ∷ 32000000 ∷ []) (s .args .mx ∷ s .args .nx ∷ s .args .my ∷ s .args .ny ∷ s .args .w ∷ [])
+five s = s .pre .0 .bm also s .pre .0 .bn also s .pre .1 .bm also s .pre .1 .bn also s .pre .1 .bw also none
+
+add-lead : tie.Need-add-lead
+add-lead c = need (five (c .before)) (var 0 ⊕ var 4) tt
+
+lead-requires : tie.Need-lead-requires
+lead-requires c κs = search needs
+
+returns : tie.Need-returns
+returns c =
+    let s = c .before .before in
+    out-ok (c .lead .result) (c .lead .ok) ∙ c .lead .ensures
+    ∙ ap₂ (λ (a b : ℤ). first (sgn a) (sgn b)) (gives (five s) (var 0 ⊕ var 4) tt) (gives (five s) (var 1) tt)
+    ∙ sym (ap (λ (n : Side). sideOfFigure (side n) (point s)) (side-one (eq-taken (s .fits .n) (fits64 (w-pos 1) tt) (c .before .if1 .taken))) ∙ left-side-is (point s))
+
+add-lead-2 : tie.Need-add-lead-2
+add-lead-2 c = need (five (c .before .before)) (var 2 ⊕ var 4) tt
+
+lead-requires-2 : tie.Need-lead-requires-2
+lead-requires-2 c κs = search needs
+
+returns-2 : tie.Need-returns-2
+returns-2 c =
+    let s = c .before .before .before in
+    out-ok (c .lead2 .result) (c .lead2 .ok) ∙ c .lead2 .ensures
+    ∙ ap₂ (λ (a b : ℤ). first (sgn a) (sgn b)) (gives (five s) (var 2 ⊕ var 4) tt) (gives (five s) (var 3) tt)
+    ∙ sym (ap (λ (n : Side). sideOfFigure (side n) (point s)) (side-two (eq-taken (s .fits .n) (fits64 (w-pos 2) tt) (c .before .if2 .taken))) ∙ bottom-side-is (point s))
+
+sub-lead : tie.Need-sub-lead
+sub-lead c = need (five (c .before .before .before)) (var 4 ⊖ var 0) tt
+
+sub-lead-2 : tie.Need-sub-lead-2
+sub-lead-2 c = need (five (c .before .before .before)) (lit 0 ⊖ var 1) tt
+
+lead-requires-3 : tie.Need-lead-requires-3
+lead-requires-3 c κs = search needs
+
+returns-3 : tie.Need-returns-3
+returns-3 c =
+    let s = c .before .before .before .before in
+    out-ok (c .lead3 .result) (c .lead3 .ok) ∙ c .lead3 .ensures
+    ∙ ap₂ (λ (a b : ℤ). first (sgn a) (sgn b)) (gives (five s) (var 4 ⊖ var 0) tt) (gives (five s) (lit 0 ⊖ var 1) tt ∙ +ℤ-idl (negℤ (s .args .nx)))
+    ∙ sym (ap (λ (n : Side). sideOfFigure (side n) (point s)) (side-three (eq-taken (s .fits .n) (fits64 (w-pos 3) tt) (c .before .if3 .taken))) ∙ right-side-is (point s))
+
+sub-lead-3 : tie.Need-sub-lead-3
+sub-lead-3 c = need (five (c .before .before .before)) (var 4 ⊖ var 2) tt
+
+sub-lead-4 : tie.Need-sub-lead-4
+sub-lead-4 c = need (five (c .before .before .before)) (lit 0 ⊖ var 3) tt
+
+lead-requires-4 : tie.Need-lead-requires-4
+lead-requires-4 c κs = search needs
+
+returns-4 : tie.Need-returns-4
+returns-4 c =
+    let s = c .before .before .before .before in
+    out-ok (c .lead4 .result) (c .lead4 .ok) ∙ c .lead4 .ensures
+    ∙ ap₂ (λ (a b : ℤ). first (sgn a) (sgn b)) (gives (five s) (var 4 ⊖ var 2) tt) (gives (five s) (lit 0 ⊖ var 3) tt ∙ +ℤ-idl (negℤ (s .args .ny)))
+    ∙ sym (ap (λ (n : Side). sideOfFigure (side n) (point s)) (side-four {n = s .args .n} (eq-left (c .before .before .before .if1 .left)) (eq-left (c .before .before .if2 .left)) (eq-left (c .before .if3 .left))) ∙ top-side-is (point s))
+
+pub frame-side-spec : {M : Type 1} → statement M
+frame-side-spec =
+    tie.close
+    (tie.spec
+    add-lead
+    lead-requires
+    returns
+    add-lead-2
+    lead-requires-2
+    returns-2
+    sub-lead
+    sub-lead-2
+    lead-requires-3
+    returns-3
+    sub-lead-3
+    sub-lead-4
+    lead-requires-4
+    returns-4)

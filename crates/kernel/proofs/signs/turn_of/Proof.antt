@@ -1,0 +1,76 @@
+use mathlib.Core.Path.{sym, _∙_, ap, ap₂}
+use mathlib.Core.List.{[], _∷_}
+use lib.IntN.{ℤ, _+ℤ_}
+use Rattle.whole.specs.Sign.{sgn}
+use Rattle.whole.specs.Poly.{first}
+use Rattle.whole.specs.PolyLaws.{first-sgn}
+use Rattle.whole.specs.Ring.{var, _⊕_}
+use Rattle.whole.specs.Flat.{All, none, _also_, need, gives}
+use Rattle.whole.specs.Bound.{w-is}
+use Rattle.whole.specs.Tests.{out-ok}
+use Rattle.sheet.specs.Expansions.{turnC, turn-is}
+use Rattle.kernel.specs.Forms.{mixed-is}
+use Rattle.kernel.proofs.Det.{row, det-within}
+use borrow.Author.Needs.{needs}
+use Rattle.kernel.proofs.signs.turn_of.Statement.{statement}
+use Rattle.kernel.proofs.signs.turn_of.Tie as tie
+
+-- the two parts of the coefficient of R
+parts : (c : tie.After-turn-nm) → All (1536000000000000000 ∷ 1536000000000000000 ∷ []) (c .before .turn-mn .result ∷ c .turn-nm .result ∷ [])
+parts c =
+    let b = c .before .before .before .pre in
+    w-is (c .before .turn-mn .ensures)
+    (det-within (row (b .0 .bw) (b .0 .bmx) (b .0 .bny), row (b .1 .bw) (b .1 .bmx) (b .1 .bny), row (b .2 .bw) (b .2 .bmx) (b .2 .bny)))
+    also w-is (c .turn-nm .ensures)
+    (det-within (row (b .0 .bw) (b .0 .bnx) (b .0 .bmy), row (b .1 .bw) (b .1 .bnx) (b .1 .bmy), row (b .2 .bw) (b .2 .bnx) (b .2 .bmy)))
+    also none
+
+turn-a-requires : tie.Need-turn-a-requires
+turn-a-requires c κs = search needs
+
+turn-mn-requires : tie.Need-turn-mn-requires
+turn-mn-requires c κs = search needs
+
+turn-nm-requires : tie.Need-turn-nm-requires
+turn-nm-requires c κs = search needs
+
+add-b : tie.Need-add-b
+add-b c = need (parts c) (var 0 ⊕ var 1) tt
+
+turn-c-requires : tie.Need-turn-c-requires
+turn-c-requires c κs = search needs
+
+lead-requires : tie.Need-lead-requires
+lead-requires c κs = search needs
+
+lead-requires-2 : tie.Need-lead-requires-2
+lead-requires-2 c κs = search needs
+
+returns : tie.Need-returns
+returns c =
+    let t = c .before .before .before in
+    let s = t .before .before .before in
+    let a = out-ok (t .before .before .turn-a .result) (t .before .before .turn-a .ok) ∙ t .before .before .turn-a .ensures in
+    let b =
+    gives (parts t) (var 0 ⊕ var 1) tt ∙ ap₂ _+ℤ_ (t .before .turn-mn .ensures) (t .turn-nm .ensures)
+    ∙ mixed-is (s .args .p) (s .args .q) (s .args .s)
+    in
+    let e = out-ok (c .before .before .turn-c .result) (c .before .before .turn-c .ok) ∙ c .before .before .turn-c .ensures in
+    let ab = out-ok (c .before .lead .result) (c .before .lead .ok) ∙ c .before .lead .ensures ∙ ap₂ (λ (x y : ℤ). first (sgn x) (sgn y)) a b in
+    out-ok (c .lead2 .result) (c .lead2 .ok) ∙ c .lead2 .ensures
+    ∙ ap₂ (λ (x y : ℤ). first (sgn x) (sgn y)) ab e
+    ∙ ap (λ (x : ℤ). first x (sgn (turnC (s .args .p) (s .args .q) (s .args .s)))) (first-sgn _ _)
+    ∙ sym (turn-is (s .args .p) (s .args .q) (s .args .s))
+
+pub turn-of-spec : {M : Type 1} → statement M
+turn-of-spec =
+    tie.close
+    (tie.spec
+    turn-a-requires
+    turn-mn-requires
+    turn-nm-requires
+    add-b
+    turn-c-requires
+    lead-requires
+    lead-requires-2
+    returns)

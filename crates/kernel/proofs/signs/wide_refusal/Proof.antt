@@ -1,0 +1,37 @@
+use mathlib.Core.Path.{_≡_, sym, _∙_}
+use mathlib.Core.Bool.{_&&_}
+use Rattle.sheet.specs.Points.{narrow}
+use borrow.Author.Needs.{needs}
+use Rattle.kernel.proofs.signs.wide_refusal.Statement.{statement}
+use Rattle.kernel.proofs.signs.wide_refusal.Tie as tie
+
+slim :
+    (c : tie.After-check-narrow3) →
+    c .before .before .check-narrow .result && c .before .check-narrow2 .result && c .check-narrow3 .result
+    ≡ narrow (c .before .before .before .args .p) && narrow (c .before .before .before .args .q) && narrow (c .before .before .before .args .s)
+slim c = simp (c .before .before .check-narrow .ensures, c .before .check-narrow2 .ensures, c .check-narrow3 .ensures)
+
+check-narrow-requires : tie.Need-check-narrow-requires
+check-narrow-requires c κs = search needs
+
+check-narrow-requires-2 : tie.Need-check-narrow-requires-2
+check-narrow-requires-2 c κs = search needs
+
+check-narrow-requires-3 : tie.Need-check-narrow-requires-3
+check-narrow-requires-3 c κs = search needs
+
+returns : tie.Need-returns
+returns c = simp (sym (slim (c .before)) ∙ c .if1 .taken)
+
+returns-2 : tie.Need-returns-2
+returns-2 c = simp (sym (slim (c .before)) ∙ c .if1 .left)
+
+pub wide-refusal-spec : {M : Type 1} → statement M
+wide-refusal-spec =
+    tie.close
+    (tie.spec
+    check-narrow-requires
+    check-narrow-requires-2
+    check-narrow-requires-3
+    returns
+    returns-2)

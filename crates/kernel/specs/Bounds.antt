@@ -1,0 +1,63 @@
+-- What the kernel's inner functions ask of their numbers. Nothing here is part of a public promise.
+use mathlib.Core.Path.{_≡_}
+use Prim.Native.Nat.{ℕ, _<_, _≤_}
+use lib.IntN.{ℤ, pos}
+use lib.Signed.{_<ℤ_}
+use Rattle.whole.specs.Bound.{Within}
+use Rattle.sheet.specs.declared.Point.{Point}
+
+-- five numbers before the common divisor goes out
+pub record Raw (mx nx my ny w : ℤ) : Type 0 where
+  pub bmx : Within 64000000000 mx
+  pub bnx : Within 64000000000 nx
+  pub bmy : Within 64000000000 my
+  pub bny : Within 64000000000 ny
+  pub bw : Within 64000000000 w
+  pub above : pos 0 <ℤ w
+
+-- one of them, and the divisor
+pub record Part (n : ℤ) (g : ℕ) : Type 0 where
+  pub bn : Within 64000000000 n
+  pub above : 0 < g
+  pub small : g ≤ 64000000000
+
+-- a direction with its moment k = dx py - dy px
+pub record Direction (dx dy k : ℤ) : Type 0 where
+  pub bdx : Within 4000 dx
+  pub bdy : Within 4000 dy
+  pub bk : Within 16000000 k
+
+-- a given point and a direction that is not 0
+pub record Ahead (px py dx dy : ℤ) : Type 0 where
+  pub bpx : Within 2000 px
+  pub bpy : Within 2000 py
+  pub bdx : Within 4000 dx
+  pub bdy : Within 4000 dy
+  pub moves : dx ≡ pos 0 → dy ≡ pos 0 → ⊥
+
+-- one coordinate of a point: m, n and w
+pub record Axis (m n w : ℤ) : Type 0 where
+  pub bm : Within 4000 m
+  pub bn : Within 64000000000 n
+  pub bw : Within 32000000 w
+
+-- a row of the determinant: w, x and y
+pub record Row (w x y : ℤ) : Type 0 where
+  pub bw : Within 4000 w
+  pub bx : Within 8000000 x
+  pub by : Within 8000000 y
+
+-- a narrow point
+pub record Slim (p : Point) : Type 0 where
+  pub bw : Within 4000 (p .w)
+  pub bmx : Within 8000000 (p .mx)
+  pub bnx : Within 8000000 (p .nx)
+  pub bmy : Within 8000000 (p .my)
+  pub bny : Within 8000000 (p .ny)
+
+-- two given points
+pub record Pair (px py qx qy : ℤ) : Type 0 where
+  pub bpx : Within 2000 px
+  pub bpy : Within 2000 py
+  pub bqx : Within 2000 qx
+  pub bqy : Within 2000 qy

@@ -1,0 +1,4 @@
+pub mod Bounds
+pub mod Forms
+pub mod Kinds
+pub mod Accepts

@@ -1,0 +1,66 @@
+use mathlib.Core.Path.{_≡_, sym, _∙_}
+use lib.IntN.{pos}
+use Rattle.whole.specs.Bound.{fits64, w-pos}
+use Rattle.whole.specs.Tests.{out-is, out-ok, eq-taken, eq-left, eq-eqZ, ne-eqZ}
+use Rattle.sheet.specs.Refusal.{outside}
+use borrow.Author.Needs.{needs}
+use Rattle.sheet.proofs.refusal_of.Statement.{statement}
+use Rattle.sheet.proofs.refusal_of.Tie as tie
+
+kind : (c : tie.After-is-outside) → c .is-outside .result ≡ outside (pos 1) (pos 4) (c .before .args .kind)
+kind c = simp (c .is-outside .ensures, out-is, c .before .fits .kind)
+
+is-outside-requires : tie.Need-is-outside-requires
+is-outside-requires c κs = search needs
+
+returns : tie.Need-returns
+returns c = simp (sym (kind (c .before)) ∙ c .if1 .taken)
+
+side-refusal-requires : tie.Need-side-refusal-requires
+side-refusal-requires c κs = search needs
+
+returns-2 : tie.Need-returns-2
+returns-2 c =
+    let s = c .before .before .before .before in
+    let four = eq-eqZ (eq-taken (s .fits .kind) (fits64 (w-pos 4) tt) (c .before .if2 .taken)) in
+    out-ok (c .side-refusal .result) (c .side-refusal .ok)
+    ∙ simp (
+      sym (kind (c .before .before .before)) ∙ c .before .before .if1 .left,
+      four,
+      c .side-refusal .ensures,
+      out-is,
+      s .fits .px,
+      s .fits .py,
+      s .fits .qx,
+      s .fits .qy,
+    )
+
+pair-refusal-requires : tie.Need-pair-refusal-requires
+pair-refusal-requires c κs = search needs
+
+returns-3 : tie.Need-returns-3
+returns-3 c =
+    let s = c .before .before .before .before in
+    let other = ne-eqZ {a = s .args .kind} {b = pos 4} (eq-left (c .before .if2 .left)) in
+    out-ok (c .pair-refusal .result) (c .pair-refusal .ok)
+    ∙ simp (
+      sym (kind (c .before .before .before)) ∙ c .before .before .if1 .left,
+      other,
+      c .pair-refusal .ensures,
+      out-is,
+      s .fits .px,
+      s .fits .py,
+      s .fits .qx,
+      s .fits .qy,
+    )
+
+pub refusal-of-spec : {M : Type 1} → statement M
+refusal-of-spec =
+    tie.close
+    (tie.spec
+    is-outside-requires
+    returns
+    side-refusal-requires
+    returns-2
+    pair-refusal-requires
+    returns-3)

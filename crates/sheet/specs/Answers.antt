@@ -1,0 +1,33 @@
+-- What each answer says, as the paper's numbers: 0 and the values of an accepted call, or the number of a refusal and nothing more.
+-- No two values of an answer say the same numbers.
+use mathlib.Core.Bool.{cond}
+use mathlib.Core.List.{List, [], _∷_, _++_}
+use lib.IntN.{ℤ, pos}
+use Rattle.whole.specs.Tests.{eqZ}
+use Rattle.sheet.specs.declared.Object.{Object}
+use Rattle.sheet.specs.declared.Made.{Made}
+use Rattle.sheet.specs.declared.Made.the-variants as made
+use Rattle.sheet.specs.declared.Ends.{Ends}
+use Rattle.sheet.specs.declared.Ends.the-variants as ends
+use Rattle.sheet.specs.declared.Signed.{Signed}
+use Rattle.sheet.specs.declared.Signed.the-variants as signed
+use Rattle.sheet.specs.Points.{numbers}
+
+-- the values where the number is 0, else the number
+abbrev pub answer : ℤ → List ℤ → List ℤ
+answer n values = cond (eqZ n (pos 0)) (pos 0 ∷ values) (n ∷ [])
+
+abbrev pub objectNumbers : Object → List ℤ
+objectNumbers o = o .kind ∷ o .px ∷ o .py ∷ o .qx ∷ o .qy ∷ []
+
+abbrev pub madeSays : Made → List ℤ
+madeSays (made.Done o) = pos 0 ∷ objectNumbers o
+madeSays (made.Refused n) = n ∷ []
+
+abbrev pub endsSay : Ends → List ℤ
+endsSay (ends.Both p q) = pos 0 ∷ (numbers p ++ numbers q)
+endsSay (ends.Refused n) = n ∷ []
+
+abbrev pub signedSays : Signed → List ℤ
+signedSays (signed.Sign s) = pos 0 ∷ s ∷ []
+signedSays (signed.Refused n) = n ∷ []

@@ -1,0 +1,92 @@
+-- The laws of answers. To cite:
+--   refused, accepted           what `answer` says where the number is not 0, and where it is
+--   says-refused, says-accepted the same from the code's test of a call's result
+--   or-zero                     several checks in turn find nothing
+--   made-one, ends-one, signed-one   no two values of an answer say the same numbers
+-- Assumes nothing.
+use mathlib.Core.Path.{_≡_, refl, sym, _∙_, ap, ap₂}
+use mathlib.Core.Bool.{Bool, true, false, cond}
+use mathlib.Core.List.{List, [], _∷_}
+use Prim.Native.Nat.{ℕ}
+use native.Mathlib.Omega.{arith}
+use lib.IntN.{ℤ, pos}
+use mir.Syntax.{w64}
+use mir.Val.{SFits, ofZ}
+use Rattle.whole.specs.Bound.{fits64, w-pos}
+use Rattle.whole.specs.Tests.{eqZ, eqZ-true, eqZ-false, eq-eqZ, ne-eqZ, eq-taken, eq-left, out, out-is}
+use Rattle.sheet.specs.declared.Object.{Object}
+use Rattle.sheet.specs.declared.Point.{Point}
+use Rattle.sheet.specs.declared.Made.{Made}
+use Rattle.sheet.specs.declared.Made.the-variants as made
+use Rattle.sheet.specs.declared.Ends.{Ends}
+use Rattle.sheet.specs.declared.Ends.the-variants as ends
+use Rattle.sheet.specs.declared.Signed.{Signed}
+use Rattle.sheet.specs.declared.Signed.the-variants as signed
+use Rattle.sheet.specs.Points.{numbers}
+use Rattle.sheet.specs.Signs.{orElse}
+use Rattle.sheet.specs.Answers.{answer, objectNumbers, madeSays, endsSay, signedSays}
+
+pub accepted : {n : ℤ} (values : List ℤ) → n ≡ pos 0 → answer n values ≡ pos 0 ∷ values
+accepted {n} values e = simp (eq-eqZ e)
+
+pub refused : {n : ℤ} (values : List ℤ) → (n ≡ pos 0 → ⊥) → answer n values ≡ n ∷ []
+refused {n} values d = simp (ne-eqZ d)
+
+-- r is a call's result, and the code tests whether it is 0
+pub says-refused :
+    {r n : ℤ} (values : List ℤ) → SFits w64 r → r ≡ n → (ofZ w64 r ≡ 0 → ⊥) → out r ∷ [] ≡ answer n values
+says-refused {r} {n} values f e d =
+    ap (λ (z : ℤ). z ∷ []) (out-is f ∙ e) ∙ sym (refused values (λ z. eq-left {x = r} {y = pos 0} d (e ∙ z)))
+
+pub says-accepted :
+    {r n : ℤ} (values : List ℤ) → SFits w64 r → r ≡ n → ofZ w64 r ≡ 0 → pos 0 ∷ values ≡ answer n values
+says-accepted values f e z = sym (accepted values (sym e ∙ eq-taken f (fits64 (w-pos 0) tt) z))
+
+-- several checks in turn find nothing
+pub or-zero : (n m : ℤ) → orElse n m ≡ pos 0 → (n ≡ pos 0) × (m ≡ pos 0)
+or-zero n m h = go (eqZ n (pos 0)) (eqZ-true {a = n} {b = pos 0}) (eqZ-false {a = n} {b = pos 0}) h
+  where
+    go : (t : Bool) → (t ≡ true → n ≡ pos 0) → (t ≡ false → n ≡ pos 0 → ⊥) → cond t m n ≡ pos 0 → (n ≡ pos 0) × (m ≡ pos 0)
+    go true f g e = (f refl, e)
+    go false f g e = absurd (g refl e)
+
+-- ---- no two values say the same
+
+object-one : (a b : Object) → objectNumbers a ≡ objectNumbers b → a ≡ b
+object-one a b e =
+    let e1 : a .kind ≡ b .kind = cc in
+    let e2 : a .px ≡ b .px = cc in
+    let e3 : a .py ≡ b .py = cc in
+    let e4 : a .qx ≡ b .qx = cc in
+    let e5 : a .qy ≡ b .qy = cc in
+    λ i. record { kind = e1 i; px = e2 i; py = e3 i; qx = e4 i; qy = e5 i }
+
+pub point-one : (a b : Point) → numbers a ≡ numbers b → a ≡ b
+point-one a b e =
+    let e1 : a .mx ≡ b .mx = cc in
+    let e2 : a .nx ≡ b .nx = cc in
+    let e3 : a .my ≡ b .my = cc in
+    let e4 : a .ny ≡ b .ny = cc in
+    let e5 : a .w ≡ b .w = cc in
+    λ i. record { mx = e1 i; nx = e2 i; my = e3 i; ny = e4 i; w = e5 i }
+
+pub made-one : (r s : Made) → madeSays r ≡ madeSays s → r ≡ s
+made-one (made.Done a) (made.Done b) e = let e1 : objectNumbers a ≡ objectNumbers b = cc in ap made.Done (object-one a b e1)
+made-one (made.Done a) (made.Refused n) e = let z : _≡_ {A = ℕ} 0 1 = cc in absurd (omega arith)
+made-one (made.Refused n) (made.Done b) e = let z : _≡_ {A = ℕ} 0 1 = cc in absurd (omega arith)
+made-one (made.Refused n) (made.Refused m) e = let e1 : n ≡ m = cc in ap made.Refused e1
+
+pub ends-one : (r s : Ends) → endsSay r ≡ endsSay s → r ≡ s
+ends-one (ends.Both p q) (ends.Both p′ q′) e =
+    let e1 : numbers p ≡ numbers p′ = cc in
+    let e2 : numbers q ≡ numbers q′ = cc in
+    ap₂ ends.Both (point-one p p′ e1) (point-one q q′ e2)
+ends-one (ends.Both p q) (ends.Refused n) e = let z : _≡_ {A = ℕ} 0 1 = cc in absurd (omega arith)
+ends-one (ends.Refused n) (ends.Both p q) e = let z : _≡_ {A = ℕ} 0 1 = cc in absurd (omega arith)
+ends-one (ends.Refused n) (ends.Refused m) e = let e1 : n ≡ m = cc in ap ends.Refused e1
+
+pub signed-one : (r s : Signed) → signedSays r ≡ signedSays s → r ≡ s
+signed-one (signed.Sign a) (signed.Sign b) e = let e1 : a ≡ b = cc in ap signed.Sign e1
+signed-one (signed.Sign a) (signed.Refused n) e = let z : _≡_ {A = ℕ} 0 1 = cc in absurd (omega arith)
+signed-one (signed.Refused n) (signed.Sign b) e = let z : _≡_ {A = ℕ} 0 1 = cc in absurd (omega arith)
+signed-one (signed.Refused n) (signed.Refused m) e = let e1 : n ≡ m = cc in ap signed.Refused e1

@@ -1,0 +1,52 @@
+-- What the five numbers of an object mean: a segment, a ray or a line by two given points, or a side of the frame.
+use mathlib.Core.Bool.{cond}
+use lib.IntN.{ℤ, pos, negsuc, _-ℤ_}
+use Rattle.whole.specs.Tests.{eqZ}
+use Rattle.sheet.specs.declared.Object.{Object}
+
+-- a given point or a direction, by whole numbers
+pub record Vec : Type 0 where
+  pub x : ℤ
+  pub y : ℤ
+
+-- from p to q
+abbrev pub _⇀_ : Vec → Vec → Vec
+p ⇀ q = record { x = q .x -ℤ p .x; y = q .y -ℤ p .y }
+
+infix 7 _⇀_
+-- "1 left .. 2 bottom .. 3 right .. 4 top"
+pub data Side : Type 0 where
+  left bottom right top : Side
+
+-- the way out of the square over each side
+abbrev pub outX : Side → ℤ
+outX left = negsuc 0
+outX bottom = pos 0
+outX right = pos 1
+outX top = pos 0
+
+abbrev pub outY : Side → ℤ
+outY left = pos 0
+outY bottom = negsuc 0
+outY right = pos 0
+outY top = pos 1
+
+-- "Kind 1, segment from p to q. Kind 2, ray from p through q. Kind 3, line through p and q, directed from p to q. .. Kind 4, a whole frame side."
+pub data Figure : Type 0 where
+  segment ray line : Vec → Vec → Figure
+  side : Side → Figure
+
+unfoldable pub sideOf : ℤ → Side
+sideOf n = cond (eqZ n (pos 1)) left (cond (eqZ n (pos 2)) bottom (cond (eqZ n (pos 3)) right top))
+
+abbrev pub first : Object → Vec
+first o = record { x = o .px; y = o .py }
+
+abbrev pub second : Object → Vec
+second o = record { x = o .qx; y = o .qy }
+
+unfoldable pub figure : Object → Figure
+figure o =
+    cond (eqZ (o .kind) (pos 1)) (segment (first o) (second o))
+    (cond (eqZ (o .kind) (pos 2)) (ray (first o) (second o))
+    (cond (eqZ (o .kind) (pos 3)) (line (first o) (second o)) (side (sideOf (o .px)))))

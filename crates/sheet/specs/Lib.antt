@@ -1,0 +1,17 @@
+pub mod Limits
+pub mod Figure
+pub mod Refusal
+pub mod Points
+pub mod Ends
+pub mod Signs
+pub mod Crossing
+pub mod Answers
+pub mod AnswersLaws
+pub mod Rows
+pub mod Flags
+pub mod RefusalLaws
+pub mod Expansions
+pub mod PointsLaws
+pub mod EndsLaws
+pub mod SignsLaws
+pub mod ReversedLaws

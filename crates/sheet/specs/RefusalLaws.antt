@@ -1,0 +1,177 @@
+-- What an accepted object is. To cite:
+--   Small, Proper            both coordinates at most n; two given points within 2,000 that differ
+--   Taken, accepted-taken    an accepted object by its kind: what figure it is, and what holds of its numbers
+--   pair-proper, proper-pair   refusal 0 of a pair, and back;  side-proper  refusal 0 of a side;  sideNumber, side-of  the side of a number
+--   kind-segment, kind-ray, kind-line, kind-side   the figure by the kind
+--   pair-within, side-within, object-within        a refusal is 0 to 4
+-- Assumes nothing.
+use mathlib.Core.Path.{_≡_, refl, _∙_, ap, subst}
+use mathlib.Core.Bool.{Bool, true, false, cond, not, _&&_, _||_}
+use Prim.Native.Nat.{ℕ, zero, suc, _+_, _≤_}
+use native.Mathlib.Omega.{arith}
+use lib.Dec.{leb→le}
+use lib.IntN.{ℤ, pos, negsuc, _+ℤ_}
+use lib.Signed.{_≤ℤ_}
+use Rattle.whole.specs.Order.{le-dest}
+use Rattle.whole.specs.Bound.{Within, w-intro, w-upper, w-lower}
+use Rattle.whole.specs.Tests.{eqZ}
+use Rattle.sheet.specs.declared.Object.{Object}
+use Rattle.sheet.specs.Figure.{Vec, Side, left, bottom, right, top, segment, ray, line, side, sideOf, first, second, figure}
+use Rattle.sheet.specs.Refusal.{outside, beyond, pairRefusal, sideRefusal, objectRefusal, Accepted}
+use Rattle.sheet.specs.Flags.{flags}
+
+-- ---- two given points
+
+-- both coordinates are at most n
+pub record Small (n : ℕ) (a : Vec) : Type 0 where
+  pub in-x : Within n (a .x)
+  pub in-y : Within n (a .y)
+
+-- "each coordinate is from -2,000 to 2,000, both included", and "p and q differ"
+pub record Proper (p q : Vec) : Type 0 where
+  pub small-p : Small 2000 p
+  pub small-q : Small 2000 q
+  pub differ : p .x ≡ q .x → p .y ≡ q .y → ⊥
+
+pub pair-proper : (p q : Vec) → pairRefusal (p .x) (p .y) (q .x) (q .y) ≡ pos 0 → Proper p q
+unfolding pairRefusal
+pair-proper p q h =
+    let f = simp flags at h in
+    record {
+      small-p = record { in-x = w-intro (f .0 .0 .0 .0 .0) (f .0 .0 .0 .0 .1); in-y = w-intro (f .0 .0 .0 .1 .0) (f .0 .0 .0 .1 .1) };
+      small-q = record { in-x = w-intro (f .0 .0 .1 .0) (f .0 .0 .1 .1); in-y = w-intro (f .0 .1 .0) (f .0 .1 .1) };
+      differ = f .1 .0;
+    }
+
+pub proper-pair : (p q : Vec) → Proper p q → pairRefusal (p .x) (p .y) (q .x) (q .y) ≡ pos 0
+unfolding pairRefusal
+proper-pair p q h =
+    simp flags
+    ((((two (h .small-p .in-x), two (h .small-p .in-y)), two (h .small-q .in-x)), two (h .small-q .in-y)), (h .differ, refl))
+  where
+    two : {z : ℤ} → Within 2000 z → (negsuc 1999 ≤ℤ z) × (z ≤ℤ pos 2000)
+    two b = (w-lower b, w-upper b)
+
+-- ---- numbers from 1 to 4
+
+pub data OneToFour (z : ℤ) : Type 0 where
+  is-1 : z ≡ pos 1 → OneToFour z
+  is-2 : z ≡ pos 2 → OneToFour z
+  is-3 : z ≡ pos 3 → OneToFour z
+  is-4 : z ≡ pos 4 → OneToFour z
+
+pub one-to-four : (z : ℤ) → pos 1 ≤ℤ z → z ≤ℤ pos 4 → OneToFour z
+one-to-four z h k = let w = le-dest h in go (w .0) (w .1)
+  where
+    go : (n : ℕ) → z ≡ pos 1 +ℤ pos n → OneToFour z
+    go zero e = is-1 e
+    go (suc zero) e = is-2 e
+    go (suc (suc zero)) e = is-3 e
+    go (suc (suc (suc zero))) e = is-4 e
+    go (suc (suc (suc (suc n)))) e = absurd (over (subst (λ (x : ℤ). x ≤ℤ pos 4) e k))
+      where
+        over : pos (1 + suc (suc (suc (suc n)))) ≤ℤ pos 4 → ⊥
+        over l = let m = leb→le (1 + suc (suc (suc (suc n)))) 4 (l .le) in omega arith
+
+-- ---- sides
+
+abbrev pub sideNumber : Side → ℤ
+sideNumber left = pos 1
+sideNumber bottom = pos 2
+sideNumber right = pos 3
+sideNumber top = pos 4
+
+pub side-of : (n : Side) → sideOf (sideNumber n) ≡ n
+unfolding sideOf
+side-of left = refl
+side-of bottom = refl
+side-of right = refl
+side-of top = refl
+
+-- what an accepted side's four numbers are
+pub record ASide (n a b c : ℤ) : Type 0 where
+  pub which : Side
+  pub number : n ≡ sideNumber which
+  pub rest : (a ≡ pos 0) × (b ≡ pos 0) × (c ≡ pos 0)
+
+pub side-proper : (n a b c : ℤ) → sideRefusal n a b c ≡ pos 0 → ASide n a b c
+unfolding sideRefusal
+side-proper n a b c h =
+    let f = simp flags at h in
+    go (one-to-four n (f .0 .0 .0 .0 .0) (f .0 .0 .0 .0 .1)) (f .0 .0 .0 .1, f .0 .0 .1, f .0 .1)
+  where
+    go : OneToFour n → (a ≡ pos 0) × (b ≡ pos 0) × (c ≡ pos 0) → ASide n a b c
+    go (is-1 e) z = record { which = left; number = e; rest = z }
+    go (is-2 e) z = record { which = bottom; number = e; rest = z }
+    go (is-3 e) z = record { which = right; number = e; rest = z }
+    go (is-4 e) z = record { which = top; number = e; rest = z }
+
+-- ---- the figure by the kind
+
+pub kind-segment : (o : Object) → o .kind ≡ pos 1 → figure o ≡ segment (first o) (second o)
+unfolding figure
+kind-segment o e = simp e
+
+pub kind-ray : (o : Object) → o .kind ≡ pos 2 → figure o ≡ ray (first o) (second o)
+unfolding figure
+kind-ray o e = simp e
+
+pub kind-line : (o : Object) → o .kind ≡ pos 3 → figure o ≡ line (first o) (second o)
+unfolding figure
+kind-line o e = simp e
+
+pub kind-side : (o : Object) → o .kind ≡ pos 4 → figure o ≡ side (sideOf (o .px))
+unfolding figure
+kind-side o e = simp e
+
+-- ---- an accepted object
+
+pub data Taken (o : Object) : Type 0 where
+  a-segment : o .kind ≡ pos 1 → figure o ≡ segment (first o) (second o) → Proper (first o) (second o) → Taken o
+  a-ray : o .kind ≡ pos 2 → figure o ≡ ray (first o) (second o) → Proper (first o) (second o) → Taken o
+  a-line : o .kind ≡ pos 3 → figure o ≡ line (first o) (second o) → Proper (first o) (second o) → Taken o
+  a-side : o .kind ≡ pos 4 → (s : ASide (o .px) (o .py) (o .qx) (o .qy)) → figure o ≡ side (s .which) → Taken o
+
+pub accepted-taken : {o : Object} → Accepted o → Taken o
+unfolding objectRefusal
+accepted-taken {o} a = let f = simp flags at (a .accepted) in go (one-to-four (o .kind) (f .0 .0) (f .0 .1)) (f .1)
+  where
+    proper : pairRefusal (o .px) (o .py) (o .qx) (o .qy) ≡ pos 0 → Proper (first o) (second o)
+    proper = pair-proper (first o) (second o)
+
+    go : OneToFour (o .kind)
+        → cond (eqZ (o .kind) (pos 4)) (sideRefusal (o .px) (o .py) (o .qx) (o .qy)) (pairRefusal (o .px) (o .py) (o .qx) (o .qy)) ≡ pos 0
+        → Taken o
+    go (is-1 e) r = a-segment e (kind-segment o e) (proper (simp e at r))
+    go (is-2 e) r = a-ray e (kind-ray o e) (proper (simp e at r))
+    go (is-3 e) r = a-line e (kind-line o e) (proper (simp e at r))
+    go (is-4 e) r =
+        let s = side-proper (o .px) (o .py) (o .qx) (o .qy) (simp e at r) in
+        a-side e s (kind-side o e ∙ ap (λ (n : ℤ). side (sideOf n)) (s .number) ∙ ap side (side-of (s .which)))
+
+-- ---- a refusal is a number from 0 to 4
+
+two-ways : {k : ℕ} (t : Bool) {n m : ℤ} → Within k n → Within k m → Within k (cond t n m)
+two-ways true h l = h
+two-ways false h l = l
+
+lit : (n : ℕ) → n ≤ 4 → Within 4 (pos n)
+lit n h = record { within = h }
+
+pub pair-within : (px py qx qy : ℤ) → Within 4 (pairRefusal px py qx qy)
+unfolding pairRefusal
+pair-within px py qx qy =
+    two-ways (beyond px || beyond py || beyond qx || beyond qy) (lit 2 (omega arith))
+    (two-ways (eqZ px qx && eqZ py qy) (lit 3 (omega arith)) (lit 0 (omega arith)))
+
+pub side-within : (n a b c : ℤ) → Within 4 (sideRefusal n a b c)
+unfolding sideRefusal
+side-within n a b c =
+    two-ways (outside (pos 1) (pos 4) n || not (eqZ a (pos 0)) || not (eqZ b (pos 0)) || not (eqZ c (pos 0)))
+    (lit 4 (omega arith)) (lit 0 (omega arith))
+
+pub object-within : (o : Object) → Within 4 (objectRefusal o)
+unfolding objectRefusal
+object-within o =
+    two-ways (outside (pos 1) (pos 4) (o .kind)) (lit 1 (omega arith))
+    (two-ways (eqZ (o .kind) (pos 4)) (side-within (o .px) (o .py) (o .qx) (o .qy)) (pair-within (o .px) (o .py) (o .qx) (o .qy)))

@@ -1,0 +1,195 @@
+// The vocabulary of a clearance sheet: objects, points, and what a call answers. The paper's definitions are in specs/.
+ghost use mathlib.Core.Path.{_≡_};
+ghost use mathlib.Core.Bool.{_||_, _&&_};
+ghost use mathlib.Core.List.{[], _∷_};
+ghost use lib.IntN.{ℤ, pos, negℤ};
+ghost use Rattle.whole.specs.Tests.{eqZ};
+ghost use Rattle.sheet.specs.Limits.{reach, most};
+ghost use Rattle.sheet.specs.Refusal.{outside, anyBeyond, equal, noSide, pairRefusal, sideRefusal, refusalOf, objectRefusal};
+ghost use Rattle.sheet.specs.Answers.{answer, objectNumbers, madeSays};
+
+// An object of a sheet. Kind 1 is a segment, 2 a ray, 3 a line, each from p toward q; kind 4 is the frame's side of number px.
+pub struct Object {
+    pub kind: i64,
+    pub px: i64,
+    pub py: i64,
+    pub qx: i64,
+    pub qy: i64,
+}
+
+// A point: x is (mx R + nx)/w and y is (my R + ny)/w, where R is larger than any number.
+pub struct Point {
+    pub mx: i64,
+    pub nx: i64,
+    pub my: i64,
+    pub ny: i64,
+    pub w: i64,
+}
+
+// An object that was asked for, or the number of the refusal.
+pub enum Made {
+    Done(Object),
+    Refused(i64),
+}
+
+// The two ends of an object in its direction, or the number of the refusal.
+pub enum Ends {
+    Both(Point, Point),
+    Refused(i64),
+}
+
+// A sign: -1, 0 or 1; or the number of the refusal.
+pub enum Signed {
+    Sign(i64),
+    Refused(i64),
+}
+
+impl Object {
+    // The largest coordinate, either way.
+    pub const REACH: i64 = 2000;
+    // The most objects that a sheet has.
+    pub const MOST: usize = 512;
+
+    pub const SEGMENT: i64 = 1;
+
+    pub const RAY: i64 = 2;
+
+    pub const LINE: i64 = 3;
+
+    pub const SIDE: i64 = 4;
+
+    pub fn segment(px: i64, py: i64, qx: i64, qy: i64) -> Made
+        ensures { λ r. ⌜ madeSays r ≡ answer (pairRefusal px py qx qy) (pos 1 ∷ px ∷ py ∷ qx ∷ qy ∷ []) ⌝ }
+    {
+        make(Object::SEGMENT, px, py, qx, qy)
+    }
+
+    pub fn ray(px: i64, py: i64, qx: i64, qy: i64) -> Made
+        ensures { λ r. ⌜ madeSays r ≡ answer (pairRefusal px py qx qy) (pos 2 ∷ px ∷ py ∷ qx ∷ qy ∷ []) ⌝ }
+    {
+        make(Object::RAY, px, py, qx, qy)
+    }
+
+    pub fn line(px: i64, py: i64, qx: i64, qy: i64) -> Made
+        ensures { λ r. ⌜ madeSays r ≡ answer (pairRefusal px py qx qy) (pos 3 ∷ px ∷ py ∷ qx ∷ qy ∷ []) ⌝ }
+    {
+        make(Object::LINE, px, py, qx, qy)
+    }
+
+    pub fn side(n: i64) -> Made
+        ensures { λ r. ⌜ madeSays r ≡ answer (sideRefusal n (pos 0) (pos 0) (pos 0)) (pos 4 ∷ n ∷ pos 0 ∷ pos 0 ∷ pos 0 ∷ []) ⌝ }
+    {
+        let no = side_refusal(n, 0, 0, 0);
+        if no != 0 {
+            return Made::Refused(no);
+        }
+        Made::Done(Object {
+            kind: Object::SIDE,
+            px: n,
+            py: 0,
+            qx: 0,
+            qy: 0,
+        })
+    }
+}
+
+impl Point {
+    // The limits of standard points.
+    pub const STANDARD_W: i64 = 32_000_000;
+
+    pub const STANDARD_N: i64 = 64_000_000_000;
+    // The limits of points on the frame, and of narrow points.
+    pub const FRAME_W: i64 = 4_000;
+
+    pub const FRAME_N: i64 = 8_000_000;
+}
+
+fn make(kind: i64, px: i64, py: i64, qx: i64, qy: i64) -> Made
+    ensures { λ r. ⌜ madeSays r ≡ answer (pairRefusal px py qx qy) (kind ∷ px ∷ py ∷ qx ∷ qy ∷ []) ⌝ }
+{
+    let no = pair_refusal(px, py, qx, qy);
+    if no != 0 {
+        return Made::Refused(no);
+    }
+    Made::Done(Object {
+        kind,
+        px,
+        py,
+        qx,
+        qy,
+    })
+}
+
+fn is_outside(lo: i64, hi: i64, z: i64) -> bool
+    ensures { λ r. ⌜ r ≡ outside lo hi z ⌝ }
+{
+    (z < lo) | (hi < z)
+}
+
+// Beyond the object type's own limit, which the bracket ties to the paper's.
+fn is_beyond(z: i64) -> bool
+    ensures { λ r. do ⌜ r ≡ outside (negℤ (← ⟦Object::REACH⟧ .entry)) (← ⟦Object::REACH⟧ .entry) z ⌝ }
+{
+    is_outside(-Object::REACH, Object::REACH, z)
+}
+
+fn any_beyond(px: i64, py: i64, qx: i64, qy: i64) -> bool
+    ensures { λ r. ⌜ r ≡ anyBeyond px py qx qy ⌝ }
+{
+    is_beyond(px) | is_beyond(py) | is_beyond(qx) | is_beyond(qy)
+}
+
+fn are_equal(px: i64, py: i64, qx: i64, qy: i64) -> bool
+    ensures { λ r. ⌜ r ≡ equal px py qx qy ⌝ }
+{
+    (px == qx) & (py == qy)
+}
+
+fn is_no_side(n: i64, a: i64, b: i64, c: i64) -> bool
+    ensures { λ r. ⌜ r ≡ noSide n a b c ⌝ }
+{
+    (n < 1) | (4 < n) | !(a == 0) | !(b == 0) | !(c == 0)
+}
+
+// The refusal of two given points, 2 and then 3; 0 for none.
+pub fn pair_refusal(px: i64, py: i64, qx: i64, qy: i64) -> i64
+    ensures { λ r. ⌜ r ≡ pairRefusal px py qx qy ⌝ }
+{
+    if any_beyond(px, py, qx, qy) {
+        return 2;
+    }
+    if are_equal(px, py, qx, qy) {
+        return 3;
+    }
+    0
+}
+
+// The refusal of a side number with the three numbers after it, 4; 0 for none.
+pub fn side_refusal(n: i64, a: i64, b: i64, c: i64) -> i64
+    ensures { λ r. ⌜ r ≡ sideRefusal n a b c ⌝ }
+{
+    if is_no_side(n, a, b, c) {
+        return 4;
+    }
+    0
+}
+
+fn refusal_of(kind: i64, px: i64, py: i64, qx: i64, qy: i64) -> i64
+    ensures { λ r. ⌜ r ≡ refusalOf kind px py qx qy ⌝ }
+{
+    if is_outside(Object::SEGMENT, Object::SIDE, kind) {
+        return 1;
+    }
+    if kind == Object::SIDE {
+        return side_refusal(px, py, qx, qy);
+    }
+    pair_refusal(px, py, qx, qy)
+}
+
+// The refusal of an object: 1, then 4 for kind 4, else 2 and then 3; 0 for none. The brackets hold the type's limits to the paper's.
+pub fn object_refusal(o: Object) -> i64
+    ensures { λ r. ⌜ r ≡ objectRefusal o ⌝ }
+    ensures { λ r. do ⌜ ((← ⟦Object::REACH⟧ .entry) ≡ reach) × ((← ⟦Object::MOST⟧ .entry) ≡ most) ⌝ }
+{
+    refusal_of(o.kind, o.px, o.py, o.qx, o.qy)
+}
