@@ -11,6 +11,7 @@ pub mod Tests
 pub mod Flat
 pub mod Poly
 pub mod PolyLaws
+pub mod PolyBound
 pub mod Lead
 pub mod Fraction
 pub mod FractionLaws

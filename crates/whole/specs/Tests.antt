@@ -1,12 +1,13 @@
 -- Tests of whole numbers, as flags. To cite:
 --   ltZ-true, ltZ-false, leZ-true, leZ-false, eqZ-true, eqZ-false   what a flag says
 --   lt-ltZ, le-ltZ, le-leZ, lt-leZ, eq-eqZ, ne-eqZ                  the flag from what holds
+--   cond-by                     what holds of both choices, each where its flag says so, holds of the choice
 --   out, out-is, out-ok         a number as it comes out of a local is the number; fits-ok: a call's result fits
 --   lt-flag, le-flag, eq-flag, lit-flag   the flag of two numbers out of locals is that of the numbers
 --   lt-taken, lt-left, le-taken, le-left, eq-taken, eq-left         a branch of the code, as an order or an equation
 -- Assumes nothing.
 use mathlib.Core.Path.{_≡_, refl, sym, _∙_, ap, ap₂, subst}
-use mathlib.Core.Bool.{Bool, true, false, not, true≢false}
+use mathlib.Core.Bool.{Bool, true, false, not, cond, true≢false}
 use Prim.Native.Nat.{ℕ, _<_, _^_}
 use lib.Dec.{T, eqb, ltb}
 use lib.IntN.{ℤ, pos, negsuc}
@@ -95,6 +96,10 @@ ne-eqZ {a} {b} n = go (eqZ a b) (λ e. n (eqZ-true e))
 
 pub eqZ-false : {a b : ℤ} → eqZ a b ≡ false → a ≡ b → ⊥
 eqZ-false f e = true≢false (sym (eq-eqZ e) ∙ f)
+
+pub cond-by : {A : Type 0} (F : A → Type 0) (t : Bool) {x y : A} → (t ≡ true → F x) → (t ≡ false → F y) → F (cond t x y)
+cond-by F true f g = f refl
+cond-by F false f g = g refl
 
 -- ---- numbers out of locals
 

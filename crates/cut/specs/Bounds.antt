@@ -1,0 +1,37 @@
+-- How large R has to be.
+use Prim.Native.Nat.{ℕ}
+use lib.IntN.{ℤ, pos}
+
+-- "Take any whole R of 2,000,000,000,000,000,000 or more"
+abbrev pub frameBound : ℤ
+frameBound = pos 2000000000000000000
+
+-- ends, order, side, crossing and equal numbers hold from here on; only turn needs more
+abbrev pub smallBound : ℤ
+smallBound = pos 1000000000000000
+
+-- ---- what each law needs, by the limits of the paper: a frame for smaller sheets changes these numbers
+
+-- ends: a frame point's n is 8,000,000 at most
+abbrev pub endsNeed : ℕ
+endsNeed = 8000000
+
+-- an end against a side: two such n
+abbrev pub touchNeed : ℕ
+touchNeed = 16000000
+
+-- crossing: a standard point's n
+abbrev pub crossingNeed : ℕ
+crossingNeed = 64000000000
+
+-- order, equal numbers: n w′ - n′ w of a standard point and a frame point, 64,000,000,000 times 4,000 and 8,000,000 times 32,000,000
+abbrev pub orderNeed : ℕ
+orderNeed = 512000000000000
+
+-- side: of p and q within 2,000, and any point
+abbrev pub sideNeed : ℕ
+sideNeed = 768000000000000
+
+-- turn: six products of w, n and n of narrow points
+abbrev pub turnNeed : ℕ
+turnNeed = 1536000000000000000

@@ -1,0 +1,71 @@
+-- Demand 3. To cite:
+--   demand-3    every R of 2,000,000,000,000,000,000 or more: ends, order, turn, side, crossing, equal numbers (`Claims` says what each is)
+--   from-small  all but turn, for every R of 1,000,000,000,000,000 or more
+use mathlib.Core.Path.{subst}
+use lib.IntN.{ℤ, pos}
+use lib.Signed.{_≤ℤ_, ltZ-yes, leZ-yes}
+use Rattle.whole.specs.Order.{≤-trans, <-≤-trans}
+use Rattle.sheet.specs.declared.Object.{Object}
+use Rattle.sheet.specs.Refusal.{Accepted}
+use Rattle.sheet.specs.PointsLaws.{point-is, narrow-is, point-sizes}
+use Rattle.sheet.specs.Ends.{firstEnd, lastEnd}
+use Rattle.sheet.specs.Signs.{sideSign}
+use Rattle.sheet.specs.Crossing.{none, many}
+use Rattle.cut.specs.Bounds.{frameBound, smallBound, endsNeed, crossingNeed}
+use Rattle.cut.specs.Place.{spot}
+use Rattle.cut.specs.Cut.{MoreShared, NothingShared}
+use Rattle.cut.specs.Claims.{EndsHold, CrossingHolds, Holds, DemandAt}
+use Rattle.cut.specs.Same.{put-spot, on-same, upto-same, same-upto-left}
+use Rattle.cut.specs.EndsAt.{accepted-drawn, ends-at}
+use Rattle.cut.specs.OrderAt.{order-at}
+use Rattle.cut.specs.TurnAt.{turn-at, side-at}
+use Rattle.cut.specs.SameNumbers.{same-numbers-at}
+use Rattle.cut.specs.CrossingAt.{Tells, tells-none, tells-many, crossing-tells, point-said, none-when, many-when, point-when}
+
+ends-hold : {R : ℤ} → pos endsNeed ≤ℤ R → {o : Object} → Accepted o → EndsHold R o
+unfolding firstEnd lastEnd
+ends-hold {R} hR {o} a =
+    let e = ends-at hR (accepted-drawn a) in
+    record {
+      first-above = e .first-over;
+      last-above = e .last-over;
+      first-on = record { lies = on-same (put-spot R (firstEnd o) (e .first-over)) (e .first-on) };
+      last-on = record { lies = on-same (put-spot R (lastEnd o) (e .last-over)) (e .last-on) };
+      not-before = λ P l. same-upto-left (put-spot R (firstEnd o) (e .first-over)) (e .not-before (spot P) (l .lies));
+      not-beyond = λ P l. upto-same (put-spot R (lastEnd o) (e .last-over)) (e .not-beyond (spot P) (l .lies));
+    }
+
+crossing-holds : {R : ℤ} → pos crossingNeed ≤ℤ R → {a b : Object} → Accepted a → Accepted b → CrossingHolds R a b
+crossing-holds {R} hR {a} {b} s t =
+    let c = crossing-tells hR s t in
+    record {
+      point-said = point-said c;
+      point-when = point-when c;
+      many-exactly = (λ e. more (subst (Tells R a b) e c), many-when c);
+      none-exactly = (λ e. nothing (subst (Tells R a b) e c), none-when c);
+    }
+  where
+    more : Tells R a b many → MoreShared R a b
+    more (tells-many w) = w
+
+    nothing : Tells R a b none → NothingShared R a b
+    nothing (tells-none n) = n
+
+pub from-small : (R : ℤ) → smallBound ≤ℤ R → Holds R
+unfolding sideSign
+from-small R hR = record {
+  above = λ p i. point-sizes (point-is p .0 i) .in-w .above;
+  ends = λ o a. ends-hold (≤-trans (leZ-yes tt) hR) a;
+  orders = λ p q i j h k. order-at (<-≤-trans (ltZ-yes tt) hR) (point-is p .0 i) (point-is q .0 j) h k;
+  sides = λ o a s i l. side-at (<-≤-trans (ltZ-yes tt) hR) (accepted-drawn a) (point-is s .0 i) l;
+  crossings = λ a b s t. crossing-holds (≤-trans (leZ-yes tt) hR) s t;
+  same-numbers = λ p q i j h k e. same-numbers-at (<-≤-trans (ltZ-yes tt) hR) (point-is p .0 i) (point-is q .0 j) h k e;
+}
+
+pub demand-3 : (R : ℤ) → frameBound ≤ℤ R → DemandAt R
+demand-3 R hR = record {
+  holds = from-small R (≤-trans (leZ-yes tt) hR);
+  turns = λ p q s i j m np nq ns h k l.
+      turn-at (<-≤-trans (ltZ-yes tt) hR) (point-is p .0 i) (point-is q .0 j) (point-is s .0 m)
+      (narrow-is p .0 np) (narrow-is q .0 nq) (narrow-is s .0 ns) h k l;
+}

@@ -1,0 +1,30 @@
+-- what is to be believed
+pub mod Bounds
+pub mod Place
+pub mod Cut
+pub mod Ordinary
+pub mod Claims
+-- lines, places and the square
+pub mod Same
+pub mod Line
+pub mod Square
+-- ends
+pub mod Farthest
+pub mod Far
+pub mod EndsAt
+-- signs
+pub mod Coordinate
+pub mod OrderAt
+pub mod SameNumbers
+pub mod TurnAt
+-- crossing
+pub mod Pieces
+pub mod Says
+pub mod OneLine
+pub mod Skew
+pub mod SideMeets
+pub mod SidesMeet
+pub mod CrossingAt
+-- the demand
+pub mod Demand
+pub mod Swap

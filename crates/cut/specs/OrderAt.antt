@@ -1,0 +1,75 @@
+-- Order at R is the ordinary order of the places, for every R above 512,000,000,000,000. To cite:
+--   order-at    order of two points: x first, then y, of their places
+use mathlib.Core.Path.{_≡_, sym, ap₂, subst}
+use mathlib.Core.List.{[], _∷_}
+use lib.IntN.{ℤ, pos, _-ℤ_, _*ℤ_}
+use lib.Signed.{_<ℤ_}
+use Rattle.whole.specs.Reify.{reify, reading, solve, val-pos}
+use Rattle.whole.specs.Laws.{eq-of-sub}
+use Rattle.whole.specs.Order.{lt-cert, lt-pp}
+use Rattle.whole.specs.Sign.{sgn}
+use Rattle.whole.specs.SignLaws.{Signs, signs, minus, nought, plus}
+use Rattle.whole.specs.Fraction.{Fraction, Equal, Less}
+use Rattle.whole.specs.Poly.{first}
+use Rattle.sheet.specs.declared.Point.{Point}
+use Rattle.sheet.specs.PointsLaws.{APoint}
+use Rattle.sheet.specs.Signs.{order}
+use Rattle.cut.specs.Bounds.{orderNeed}
+use Rattle.cut.specs.Place.{Place, put}
+use Rattle.cut.specs.Ordinary.{Ordered, x-less, x-more, y-less, y-more, same}
+use Rattle.cut.specs.Coordinate.{x-of, y-of, coordinate-at}
+
+-- ---- two fractions by the sign of their difference
+
+abbrev apart : Fraction → Fraction → ℤ
+apart a b = a .num *ℤ b .den -ℤ b .num *ℤ a .den
+
+is-less : (x y : ℤ) → (x -ℤ y) <ℤ pos 0 → x <ℤ y
+is-less x y h = lt-cert _ (lt-pp h) (reify (x ∷ y ∷ []) (λ ρ v. simp (reading, v 0, v 1, val-pos ρ) (solve _ _ _ tt)))
+
+is-more : (x y : ℤ) → pos 0 <ℤ (x -ℤ y) → y <ℤ x
+is-more x y h = lt-cert _ (lt-pp h) (reify (x ∷ y ∷ []) (λ ρ v. simp (reading, v 0, v 1, val-pos ρ) (solve _ _ _ tt)))
+
+module _ (a b : Fraction) where
+  less : apart a b <ℤ pos 0 → Less a b
+  less h = record { less = is-less (a .num *ℤ b .den) (b .num *ℤ a .den) h }
+
+  more : pos 0 <ℤ apart a b → Less b a
+  more h = record { less = is-more (a .num *ℤ b .den) (b .num *ℤ a .den) h }
+
+  equal : apart a b ≡ pos 0 → Equal a b
+  equal e = record { equal = eq-of-sub (a .num *ℤ b .den) (b .num *ℤ a .den) e }
+
+-- any two places are ordered by the signs of their differences
+ordered : (P Q : Place) → Ordered P Q (first (sgn (apart (P .across) (Q .across))) (sgn (apart (P .up) (Q .up))))
+ordered P Q = go (signs (apart (P .across) (Q .across))) (signs (apart (P .up) (Q .up)))
+  where
+    -- x decides, or y does
+    by-x : {s : ℤ} → sgn (apart (P .across) (Q .across)) ≡ s → Ordered P Q (first s (sgn (apart (P .up) (Q .up))))
+        → Ordered P Q (first (sgn (apart (P .across) (Q .across))) (sgn (apart (P .up) (Q .up))))
+    by-x e = subst (λ (s : ℤ). Ordered P Q (first s (sgn (apart (P .up) (Q .up))))) (sym e)
+
+    by-y : {t : ℤ} → sgn (apart (P .across) (Q .across)) ≡ pos 0 → sgn (apart (P .up) (Q .up)) ≡ t → Ordered P Q t
+        → Ordered P Q (first (sgn (apart (P .across) (Q .across))) (sgn (apart (P .up) (Q .up))))
+    by-y e f o = by-x e (subst (Ordered P Q) (sym f) o)
+
+    go : Signs (apart (P .across) (Q .across)) → Signs (apart (P .up) (Q .up))
+        → Ordered P Q (first (sgn (apart (P .across) (Q .across))) (sgn (apart (P .up) (Q .up))))
+    go (minus h e) u = by-x e (x-less (less (P .across) (Q .across) h))
+    go (plus h e) u = by-x e (x-more (more (P .across) (Q .across) h))
+    go (nought z e) (minus h f) = by-y e f (y-less (equal (P .across) (Q .across) z) (less (P .up) (Q .up) h))
+    go (nought z e) (plus h f) = by-y e f (y-more (equal (P .across) (Q .across) z) (more (P .up) (Q .up) h))
+    go (nought z e) (nought y f) =
+        by-y e f (same (record { same-across = equal (P .across) (Q .across) z; same-up = equal (P .up) (Q .up) y }))
+
+-- ---- the law
+
+pub order-at : {R : ℤ} → pos orderNeed <ℤ R → {p q : Point} → APoint p → APoint q → (h : pos 0 <ℤ p .w) (k : pos 0 <ℤ q .w)
+    → Ordered (put R p h) (put R q k) (order p q)
+unfolding order
+order-at {R} hR {p} {q} a b h k =
+    subst (Ordered (put R p h) (put R q k))
+    (sym (ap₂ first
+    (coordinate-at R (p .mx) (p .nx) (p .w) (q .mx) (q .nx) (q .w) hR (x-of a) (x-of b))
+    (coordinate-at R (p .my) (p .ny) (p .w) (q .my) (q .ny) (q .w) hR (y-of a) (y-of b))))
+    (ordered (put R p h) (put R q k))

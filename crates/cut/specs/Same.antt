@@ -1,0 +1,196 @@
+-- One place written in two ways, and that what holds of it does not depend on the way. To cite:
+--   Same, same-sym, same-trans          two spots are one place
+--   same-place, same-spot               as `SamePlace` of the places
+--   placeOf, place-spot                 a spot as a place
+--   spotAt, put-spot, given-spot        the place of a point at R over its own denominator; of a given point
+--   divided-spot                        the place stays when the common divisor goes out
+--   online-same, upto-same, same-upto-left, square-same, side-same, on-same   what holds of a spot holds of the same spot
+--   of-segment, of-ray, of-line, of-side   what it is to be on a figure of each kind
+-- Assumes nothing of R.
+use mathlib.Core.Path.{_≡_, sym, _∙_, ap}
+use mathlib.Core.List.{[], _∷_}
+use lib.IntN.{ℤ, pos, negℤ, _+ℤ_, _*ℤ_, *ℤ-comm}
+use lib.Signed.{_<ℤ_}
+use Rattle.whole.specs.Ring.{var, con, _⊕_, _⊗_, ring}
+use Rattle.whole.specs.Reify.{reify, reading, solve, val-pos}
+use Rattle.whole.specs.Order.{le-nn, nn-add, nn-mul, pp-mul, pp-nn, pp-pos}
+use Rattle.whole.specs.Cert.{z-eq, z-add, nn-eq, le-by, eq-by, eq-cert}
+use Rattle.whole.specs.FractionLaws.{equal-trans}
+use Rattle.sheet.specs.declared.Point.{Point}
+use Rattle.sheet.specs.Figure.{Vec, Side, outX, outY, Figure, segment, ray, line, side}
+use Rattle.sheet.specs.Points.{given, divisor, divided}
+use Rattle.sheet.specs.PointsLaws.{divided-back, divided-above}
+use Rattle.cut.specs.Place.{Place, SamePlace, put, Spot, spot, fixed}
+use Rattle.cut.specs.Cut.{OnLine, Upto, InSquare, OfSegment, OfRay, OfLine, OnSide, On, on-segment, on-ray, on-line, on-side}
+
+pub record Same (P Q : Spot) : Type 0 where
+  pub same-x : P .X *ℤ Q .W ≡ Q .X *ℤ P .W
+  pub same-y : P .Y *ℤ Q .W ≡ Q .Y *ℤ P .W
+
+pub same-sym : {S T : Spot} → Same S T → Same T S
+same-sym e = record { same-x = sym (e .same-x); same-y = sym (e .same-y) }
+
+-- a spot as a place
+abbrev pub placeOf : Spot → Place
+placeOf S = record {
+  across = record { num = S .X; den = S .W; above = S .above };
+  up = record { num = S .Y; den = S .W; above = S .above };
+}
+
+pub same-trans : {S T U : Spot} → Same S T → Same T U → Same S U
+same-trans {S} {T} {U} e f = record {
+  same-x =
+      equal-trans {a = placeOf S .across} {b = placeOf T .across} {c = placeOf U .across}
+      (record { equal = e .same-x }) (record { equal = f .same-x }) .equal;
+  same-y =
+      equal-trans {a = placeOf S .up} {b = placeOf T .up} {c = placeOf U .up}
+      (record { equal = e .same-y }) (record { equal = f .same-y }) .equal;
+}
+
+-- ---- the spots of places are the same just where the places are
+
+-- a v = b u is (a m) (v n) = (b n) (u m), over the other denominators m and n
+widen : (a u b v m n : ℤ) → a *ℤ v ≡ b *ℤ u → a *ℤ m *ℤ (v *ℤ n) ≡ b *ℤ n *ℤ (u *ℤ m)
+widen a u b v m n e =
+    eq-cert _ (z-eq (m *ℤ n) e) (reify (a ∷ u ∷ b ∷ v ∷ m ∷ n ∷ []) (λ ρ v. simp (reading, v 0, v 1, v 2, v 3, v 4, v 5) (solve _ _ _ tt)))
+
+narrow : (a u b v m n : ℤ) → pos 0 <ℤ m → pos 0 <ℤ n → a *ℤ m *ℤ (v *ℤ n) ≡ b *ℤ n *ℤ (u *ℤ m) → a *ℤ v ≡ b *ℤ u
+narrow a u b v m n hm hn e =
+    eq-by (m *ℤ n) (pp-mul hm hn) _ (z-eq (pos 1) e)
+    (reify (a ∷ u ∷ b ∷ v ∷ m ∷ n ∷ []) (λ ρ v. simp (reading, v 0, v 1, v 2, v 3, v 4, v 5, val-pos ρ) (solve _ _ _ tt)))
+
+module _ (P Q : Place) where
+  pub same-place : Same (spot P) (spot Q) → SamePlace P Q
+  same-place e = record {
+    same-across = record {
+      equal =
+          narrow (P .across .num) (P .across .den) (Q .across .num) (Q .across .den) (P .up .den) (Q .up .den)
+          (P .up .above) (Q .up .above) (e .same-x);
+    };
+    same-up = record {
+      equal =
+          narrow (P .up .num) (P .up .den) (Q .up .num) (Q .up .den) (P .across .den) (Q .across .den)
+          (P .across .above) (Q .across .above)
+          (ap (λ (z : ℤ). P .up .num *ℤ P .across .den *ℤ z) (*ℤ-comm (Q .up .den) (Q .across .den)) ∙ e .same-y
+          ∙ ap (λ (z : ℤ). Q .up .num *ℤ Q .across .den *ℤ z) (*ℤ-comm (P .across .den) (P .up .den)));
+    };
+  }
+
+  pub same-spot : SamePlace P Q → Same (spot P) (spot Q)
+  same-spot e = record {
+    same-x = widen (P .across .num) (P .across .den) (Q .across .num) (Q .across .den) (P .up .den) (Q .up .den) (e .same-across .equal);
+    same-y =
+        ap (λ (z : ℤ). P .up .num *ℤ P .across .den *ℤ z) (*ℤ-comm (Q .across .den) (Q .up .den))
+        ∙ widen (P .up .num) (P .up .den) (Q .up .num) (Q .up .den) (P .across .den) (Q .across .den) (e .same-up .equal)
+        ∙ ap (λ (z : ℤ). Q .up .num *ℤ Q .across .den *ℤ z) (*ℤ-comm (P .up .den) (P .across .den));
+  }
+
+-- ---- the place of a point, over its one denominator
+
+abbrev pub spotAt : (R : ℤ) (e : Point) → pos 0 <ℤ e .w → Spot
+spotAt R e h = record { X = e .mx *ℤ R +ℤ e .nx; Y = e .my *ℤ R +ℤ e .ny; W = e .w; above = h }
+
+pub place-spot : (S : Spot) → Same S (spot (placeOf S))
+place-spot S = record { same-x = twice (S .X) (S .W); same-y = twice (S .Y) (S .W) }
+  where
+    twice : (a w : ℤ) → a *ℤ (w *ℤ w) ≡ a *ℤ w *ℤ w
+    twice a w = reify (a ∷ w ∷ []) (λ ρ v. simp (reading, v 0, v 1) (solve _ _ _ tt))
+
+pub put-spot : (R : ℤ) (e : Point) (h : pos 0 <ℤ e .w) → Same (spotAt R e h) (spot (put R e h))
+put-spot R e h = place-spot (spotAt R e h)
+
+pub given-spot : (R : ℤ) (a : Vec) → Same (fixed a) (spotAt R (given a) (pp-pos 0))
+given-spot R a = record { same-x = go (a .x); same-y = go (a .y) }
+  where
+    go : (x : ℤ) → x *ℤ pos 1 ≡ (pos 0 *ℤ R +ℤ x) *ℤ pos 1
+    go x = ring (R ∷ x ∷ []) (var 1 ⊗ con (pos 1)) ((con (pos 0) ⊗ var 0 ⊕ var 1) ⊗ con (pos 1)) tt
+
+pub divided-spot : (e : Point) (h : pos 0 <ℤ e .w) (R : ℤ) → Same (spotAt R e h) (spotAt R (divided e) (divided-above e h))
+divided-spot e h R =
+    let t = divided-back e in
+    let f = divided e in
+    record {
+      same-x = go (pos (divisor e)) (f .mx) (f .nx) (f .w) (e .mx) (e .nx) (e .w) (t .mx) (t .nx) (t .w);
+      same-y = go (pos (divisor e)) (f .my) (f .ny) (f .w) (e .my) (e .ny) (e .w) (t .my) (t .ny) (t .w);
+    }
+  where
+    go : (g m n w m′ n′ w′ : ℤ) → m′ ≡ g *ℤ m → n′ ≡ g *ℤ n → w′ ≡ g *ℤ w → (m′ *ℤ R +ℤ n′) *ℤ w ≡ (m *ℤ R +ℤ n) *ℤ w′
+    go g m n w m′ n′ w′ em en ew =
+        eq-cert _ (z-add (z-add (z-eq (R *ℤ w) em) (z-eq w en)) (z-eq (negℤ (m *ℤ R +ℤ n)) ew))
+        (reify (R ∷ g ∷ m ∷ n ∷ w ∷ m′ ∷ n′ ∷ w′ ∷ []) (λ ρ v. simp (reading, v 0, v 1, v 2, v 3, v 4, v 5, v 6, v 7) (solve _ _ _ tt)))
+
+-- ---- what holds of a spot
+
+module _ {S T : Spot} (e : Same S T) where
+  pub online-same : {p d : Vec} → OnLine p d S → OnLine p d T
+  online-same {p} {d} h = record {
+    online =
+        eq-by (S .W) (S .above) _ (z-add (z-eq (T .W) (h .online)) (z-add (z-eq (negℤ (d .x)) (e .same-y)) (z-eq (d .y) (e .same-x))))
+        (reify (d .x ∷ d .y ∷ p .x ∷ p .y ∷ S .X ∷ S .Y ∷ S .W ∷ T .X ∷ T .Y ∷ T .W ∷ [])
+        (λ ρ v. simp (reading, v 0, v 1, v 2, v 3, v 4, v 5, v 6, v 7, v 8, v 9) (solve _ _ _ tt)));
+  }
+
+  pub upto-same : {d : Vec} {P : Spot} → Upto d P S → Upto d P T
+  upto-same {d} {P} h = record {
+    upto =
+        le-by (S .W) (S .above) _
+        (nn-add (nn-mul (pp-nn (T .above)) (le-nn (h .upto)))
+        (nn-add (nn-eq (negℤ (P .W *ℤ d .x)) (e .same-x)) (nn-eq (negℤ (P .W *ℤ d .y)) (e .same-y))))
+        (reify (d .x ∷ d .y ∷ P .X ∷ P .Y ∷ P .W ∷ S .X ∷ S .Y ∷ S .W ∷ T .X ∷ T .Y ∷ T .W ∷ [])
+        (λ ρ v. simp (reading, v 0, v 1, v 2, v 3, v 4, v 5, v 6, v 7, v 8, v 9, v 10) (solve _ _ _ tt)));
+  }
+
+  pub same-upto-left : {d : Vec} {P : Spot} → Upto d S P → Upto d T P
+  same-upto-left {d} {P} h = record {
+    upto =
+        le-by (S .W) (S .above) _
+        (nn-add (nn-mul (pp-nn (T .above)) (le-nn (h .upto)))
+        (nn-add (nn-eq (P .W *ℤ d .x) (e .same-x)) (nn-eq (P .W *ℤ d .y) (e .same-y))))
+        (reify (d .x ∷ d .y ∷ P .X ∷ P .Y ∷ P .W ∷ S .X ∷ S .Y ∷ S .W ∷ T .X ∷ T .Y ∷ T .W ∷ [])
+        (λ ρ v. simp (reading, v 0, v 1, v 2, v 3, v 4, v 5, v 6, v 7, v 8, v 9, v 10) (solve _ _ _ tt)));
+  }
+
+  pub square-same : {R : ℤ} → InSquare R S → InSquare R T
+  square-same {R} h = record {
+    inside = λ n. le-by (S .W) (S .above) _
+        (nn-add (nn-mul (pp-nn (T .above)) (le-nn (h .inside n))) (nn-add (nn-eq (outX n) (e .same-x)) (nn-eq (outY n) (e .same-y))))
+        (reify (outX n ∷ outY n ∷ R ∷ S .X ∷ S .Y ∷ S .W ∷ T .X ∷ T .Y ∷ T .W ∷ [])
+        (λ ρ v. simp (reading, v 0, v 1, v 2, v 3, v 4, v 5, v 6, v 7, v 8) (solve _ _ _ tt)));
+  }
+
+  pub side-same : {R : ℤ} {n : Side} → OnSide R n S → OnSide R n T
+  side-same {R} {n} h = record {
+    in-square = square-same (h .in-square);
+    edge =
+        eq-by (S .W) (S .above) _
+        (z-add (z-eq (T .W) (h .edge)) (z-add (z-eq (negℤ (outX n)) (e .same-x)) (z-eq (negℤ (outY n)) (e .same-y))))
+        (reify (outX n ∷ outY n ∷ R ∷ S .X ∷ S .Y ∷ S .W ∷ T .X ∷ T .Y ∷ T .W ∷ [])
+        (λ ρ v. simp (reading, v 0, v 1, v 2, v 3, v 4, v 5, v 6, v 7, v 8) (solve _ _ _ tt)));
+  }
+
+  of-line-same : {R : ℤ} {p q : Vec} → OfLine R p q S → OfLine R p q T
+  of-line-same s = record { on = online-same (s .on); cut = square-same (s .cut) }
+
+  pub on-same : {R : ℤ} {f : Figure} → On R f S → On R f T
+  on-same (on-segment s) = on-segment (record {
+    on = online-same (s .on);
+    not-before-p = upto-same (s .not-before-p);
+    not-beyond-q = same-upto-left (s .not-beyond-q);
+  })
+  on-same (on-line s) = on-line (of-line-same s)
+  on-same (on-ray s) = on-ray (record { of-line = of-line-same (s .of-line); from-p = upto-same (s .from-p) })
+  on-same (on-side s) = on-side (side-same s)
+
+-- ---- taken apart
+
+pub of-segment : {R : ℤ} {p q : Vec} {S : Spot} → On R (segment p q) S → OfSegment p q S
+of-segment (on-segment s) = s
+
+pub of-ray : {R : ℤ} {p q : Vec} {S : Spot} → On R (ray p q) S → OfRay R p q S
+of-ray (on-ray s) = s
+
+pub of-line : {R : ℤ} {p q : Vec} {S : Spot} → On R (line p q) S → OfLine R p q S
+of-line (on-line s) = s
+
+pub of-side : {R : ℤ} {n : Side} {S : Spot} → On R (side n) S → OnSide R n S
+of-side (on-side s) = s

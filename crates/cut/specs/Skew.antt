@@ -1,0 +1,272 @@
+-- Two pieces of any lines: what `pieces` says of the places that they share in the square. To cite:
+--   pieces-says   for every R of 64,000,000,000 or more
+use mathlib.Core.Path.{_≡_, refl, sym, _∙_}
+use mathlib.Core.Logic.{_↔_}
+use mathlib.Core.List.{[], _∷_}
+use mathlib.Core.Bool.{Bool, true, _&&_, true≢false}
+use Prim.Native.Nat.{zero, suc}
+use lib.IntN.{ℤ, pos, negsuc, negℤ, _+ℤ_, _-ℤ_, _*ℤ_}
+use lib.Signed.{_≤ℤ_, _<ℤ_, leZ-yes}
+use Rattle.whole.specs.Ring.{var, con, _⊕_, _⊗_, ring}
+use Rattle.whole.specs.Reify.{reify, reading, solve, val-pos, val-negsuc}
+use Rattle.whole.specs.Laws.{eq-of-sub}
+use Rattle.whole.specs.Order.{le-cert, le-nn, nn-add, nn-mul, pp-nn, pp-pos, ≤-trans}
+use Rattle.whole.specs.Sign.{sgn}
+use Rattle.whole.specs.SignLaws.{sgn-mul-self}
+use Rattle.whole.specs.Bound.{Within, w-sub, w-mul, w-sgn, w-size}
+use Rattle.whole.specs.Tests.{cond-by, eqZ, eqZ-true, eqZ-false, leZ-true, le-leZ}
+use Rattle.whole.specs.Cert.{z-eq, z-add, nn-eq, le-by, eq-by, eq-cert}
+use Rattle.sheet.specs.Figure.{Vec, _⇀_}
+use Rattle.sheet.specs.Points.{size, divided}
+use Rattle.sheet.specs.PointsLaws.{Standard, APoint, a-standard, standard-divided, divided-above, divided-one}
+use Rattle.sheet.specs.Ends.{moment}
+use Rattle.sheet.specs.Flags.{both}
+use Rattle.sheet.specs.Crossing.{Limit, Piece, cross, dot, meetingPoint, notBefore, notBeyond, reaches, skew, pieces}
+use Rattle.cut.specs.Bounds.{crossingNeed}
+use Rattle.cut.specs.Place.{Spot}
+use Rattle.cut.specs.Cut.{OnLine, along, InSquare}
+use Rattle.cut.specs.Same.{Same, same-trans, spotAt, divided-spot}
+use Rattle.cut.specs.Line.{size², online-p, online-over, par-sym}
+use Rattle.cut.specs.Square.{near}
+use Rattle.cut.specs.Pieces.{After, after-free, after-till, Before, before-free, before-till, Between, Part, of-after, of-before, between-same, part-same, Marks, marks-free, marks-till, Fit}
+use Rattle.cut.specs.Says.{Both, Says, says-none, says-point}
+use Rattle.cut.specs.OneLine.{together-says}
+
+-- ---- a place p + (g / W) d: on the line, and within the limits just where the tests of g say so
+
+pub record Reached (p d : Vec) (g : ℤ) (M : Spot) : Type 0 where
+  pub by-x : M .X ≡ p .x *ℤ M .W +ℤ g *ℤ d .x
+  pub by-y : M .Y ≡ p .y *ℤ M .W +ℤ g *ℤ d .y
+
+module _ (p d : Vec) (g : ℤ) (M : Spot) (m : Reached p d g M) where
+  reached-on : OnLine p d M
+  reached-on = record {
+    online =
+        eq-cert _ (z-add (z-eq (d .x) (m .by-y)) (z-eq (negℤ (d .y)) (m .by-x)))
+        (reify (d .x ∷ d .y ∷ p .x ∷ p .y ∷ M .X ∷ M .Y ∷ M .W ∷ g ∷ [])
+        (λ ρ v. simp (reading, v 0, v 1, v 2, v 3, v 4, v 5, v 6, v 7) (solve _ _ _ tt)));
+  }
+
+  along-is : along d M ≡ dot d p *ℤ M .W +ℤ size² d *ℤ g
+  along-is =
+      eq-cert _ (z-add (z-eq (d .x) (m .by-x)) (z-eq (d .y) (m .by-y)))
+      (reify (d .x ∷ d .y ∷ p .x ∷ p .y ∷ M .X ∷ M .Y ∷ M .W ∷ g ∷ [])
+      (λ ρ v. simp (reading, v 0, v 1, v 2, v 3, v 4, v 5, v 6, v 7) (solve _ _ _ tt)))
+
+-- what is v W + N g along, N the square of d, is not before v where g is 0 or more, and not beyond v + N where g is W at most
+module _ (d : Vec) (v g : ℤ) (M : Spot) (len : pos 0 <ℤ size² d) (here : along d M ≡ v *ℤ M .W +ℤ size² d *ℤ g) where
+  start-test : {l : Limit} → Marks d v l → (notBefore l g ≡ true) ↔ After d l M
+  start-test marks-free = ((λ t. after-free), (λ h. refl))
+  start-test (marks-till {a = a} e) = (
+    (λ t. after-till {a = a} {S = M} (record {
+      upto =
+          le-cert _
+          (nn-add (nn-mul (pp-nn len) (le-nn (leZ-true {a = pos 0} {b = g} t))) (nn-add (nn-eq (pos 1) here) (nn-eq (negℤ (M .W)) e)))
+          (reify (d .x ∷ d .y ∷ a .x ∷ a .y ∷ M .X ∷ M .Y ∷ M .W ∷ v ∷ g ∷ [])
+          (λ ρ v. simp (reading, v 0, v 1, v 2, v 3, v 4, v 5, v 6, v 7, v 8, val-pos ρ) (solve _ _ _ tt)));
+    })),
+    (λ h. le-leZ (le-by {a = pos 0} {b = g} (size² d) len _
+        (nn-add (le-nn (of-after h .upto)) (nn-add (nn-eq (negsuc 0) here) (nn-eq (M .W) e)))
+        (reify (d .x ∷ d .y ∷ a .x ∷ a .y ∷ M .X ∷ M .Y ∷ M .W ∷ v ∷ g ∷ [])
+        (λ ρ v. simp (reading, v 0, v 1, v 2, v 3, v 4, v 5, v 6, v 7, v 8, val-pos ρ, val-negsuc ρ) (solve _ _ _ tt))))),
+  )
+
+  stop-test : {l : Limit} → Marks d (v +ℤ size² d) l → (notBeyond l g (M .W) ≡ true) ↔ Before d l M
+  stop-test marks-free = ((λ t. before-free), (λ h. refl))
+  stop-test (marks-till {a = a} e) = (
+    (λ t. before-till {b = a} {S = M} (record {
+      upto =
+          le-cert _
+          (nn-add (nn-mul (pp-nn len) (le-nn (leZ-true {a = g} {b = M .W} t))) (nn-add (nn-eq (negsuc 0) here) (nn-eq (M .W) e)))
+          (reify (d .x ∷ d .y ∷ a .x ∷ a .y ∷ M .X ∷ M .Y ∷ M .W ∷ v ∷ g ∷ [])
+          (λ ρ v. simp (reading, v 0, v 1, v 2, v 3, v 4, v 5, v 6, v 7, v 8, val-pos ρ, val-negsuc ρ) (solve _ _ _ tt)));
+    })),
+    (λ h. le-leZ (le-by {a = g} {b = M .W} (size² d) len _
+        (nn-add (le-nn (of-before h .upto)) (nn-add (nn-eq (pos 1) here) (nn-eq (negℤ (M .W)) e)))
+        (reify (d .x ∷ d .y ∷ a .x ∷ a .y ∷ M .X ∷ M .Y ∷ M .W ∷ v ∷ g ∷ [])
+        (λ ρ v. simp (reading, v 0, v 1, v 2, v 3, v 4, v 5, v 6, v 7, v 8, val-pos ρ) (solve _ _ _ tt))))),
+  )
+
+reaches-test : (A : Piece) → Fit A → (g : ℤ) (M : Spot) → Reached (A .p) (A .d) g M
+    → (reaches A g (M .W) ≡ true) ↔ Between (A .d) (A .start) (A .stop) M
+reaches-test A f g M m =
+    let e = along-is (A .p) (A .d) g M m in
+    let b = both (notBefore (A .start) g) (notBeyond (A .stop) g (M .W)) in
+    let s = start-test (A .d) (dot (A .d) (A .p)) g M (f .len) e (f .at-p) in
+    let t = stop-test (A .d) (dot (A .d) (A .p)) g M (f .len) e (f .at-q) in
+    ((λ h. let c = b .0 h in record { after = s .0 (c .0); before = t .0 (c .1) }), (λ c. b .1 (s .1 (c .after), t .1 (c .before))))
+
+-- ---- not parallel: Cramer's rule
+
+-- the numerators, and how far along each the place is
+abbrev meetX : Piece → Piece → ℤ
+meetX A B = moment (A .p) (A .d) *ℤ B .d .x -ℤ moment (B .p) (B .d) *ℤ A .d .x
+
+abbrev meetY : Piece → Piece → ℤ
+meetY A B = moment (A .p) (A .d) *ℤ B .d .y -ℤ moment (B .p) (B .d) *ℤ A .d .y
+
+-- with s the sign of the determinant, and w its size
+module _ (A B : Piece) (s w : ℤ) (e : s *ℤ cross (A .d) (B .d) ≡ w) (hw : pos 0 <ℤ w) where
+  meet : Spot
+  meet = record { X = s *ℤ meetX A B; Y = s *ℤ meetY A B; W = w; above = hw }
+
+  reached-A : Reached (A .p) (A .d) (s *ℤ cross (A .p ⇀ B .p) (B .d)) meet
+  unfolding meet
+  reached-A = record {
+    by-x =
+        eq-cert _ (z-eq (A .p .x) e)
+        (reify (A .d .x ∷ A .d .y ∷ A .p .x ∷ A .p .y ∷ B .d .x ∷ B .d .y ∷ B .p .x ∷ B .p .y ∷ s ∷ w ∷ [])
+        (λ ρ v. simp (reading, v 0, v 1, v 2, v 3, v 4, v 5, v 6, v 7, v 8, v 9) (solve _ _ _ tt)));
+    by-y =
+        eq-cert _ (z-eq (A .p .y) e)
+        (reify (A .d .x ∷ A .d .y ∷ A .p .x ∷ A .p .y ∷ B .d .x ∷ B .d .y ∷ B .p .x ∷ B .p .y ∷ s ∷ w ∷ [])
+        (λ ρ v. simp (reading, v 0, v 1, v 2, v 3, v 4, v 5, v 6, v 7, v 8, v 9) (solve _ _ _ tt)));
+  }
+
+  reached-B : Reached (B .p) (B .d) (s *ℤ cross (A .p ⇀ B .p) (A .d)) meet
+  unfolding meet
+  reached-B = record {
+    by-x =
+        eq-cert _ (z-eq (B .p .x) e)
+        (reify (A .d .x ∷ A .d .y ∷ A .p .x ∷ A .p .y ∷ B .d .x ∷ B .d .y ∷ B .p .x ∷ B .p .y ∷ s ∷ w ∷ [])
+        (λ ρ v. simp (reading, v 0, v 1, v 2, v 3, v 4, v 5, v 6, v 7, v 8, v 9) (solve _ _ _ tt)));
+    by-y =
+        eq-cert _ (z-eq (B .p .y) e)
+        (reify (A .d .x ∷ A .d .y ∷ A .p .x ∷ A .p .y ∷ B .d .x ∷ B .d .y ∷ B .p .x ∷ B .p .y ∷ s ∷ w ∷ [])
+        (λ ρ v. simp (reading, v 0, v 1, v 2, v 3, v 4, v 5, v 6, v 7, v 8, v 9) (solve _ _ _ tt)));
+  }
+
+  -- there is no other
+  meet-only : (S : Spot) → OnLine (A .p) (A .d) S → OnLine (B .p) (B .d) S → Same S meet
+  unfolding meet
+  meet-only S f g = record {
+    same-x =
+        eq-cert _ (z-add (z-add (z-eq (s *ℤ B .d .x) (f .online)) (z-eq (negℤ (s *ℤ A .d .x)) (g .online))) (z-eq (negℤ (S .X)) e))
+        (reify (A .d .x ∷ A .d .y ∷ A .p .x ∷ A .p .y ∷ B .d .x ∷ B .d .y ∷ B .p .x ∷ B .p .y ∷ S .X ∷ S .Y ∷ S .W ∷ s ∷ w ∷ [])
+        (λ ρ v. simp (reading, v 0, v 1, v 2, v 3, v 4, v 5, v 6, v 7, v 8, v 9, v 10, v 11, v 12) (solve _ _ _ tt)));
+    same-y =
+        eq-cert _ (z-add (z-add (z-eq (s *ℤ B .d .y) (f .online)) (z-eq (negℤ (s *ℤ A .d .y)) (g .online))) (z-eq (negℤ (S .Y)) e))
+        (reify (A .d .x ∷ A .d .y ∷ A .p .x ∷ A .p .y ∷ B .d .x ∷ B .d .y ∷ B .p .x ∷ B .p .y ∷ S .X ∷ S .Y ∷ S .W ∷ s ∷ w ∷ [])
+        (λ ρ v. simp (reading, v 0, v 1, v 2, v 3, v 4, v 5, v 6, v 7, v 8, v 9, v 10, v 11, v 12) (solve _ _ _ tt)));
+  }
+
+-- whole numbers over w, as a point and as a spot
+standing : (R x y w : ℤ) (h : pos 0 <ℤ w)
+    → Same (record { X = x; Y = y; W = w; above = h }) (spotAt R (record { mx = pos 0; nx = x; my = pos 0; ny = y; w = w }) h)
+standing R x y w h = record { same-x = go x; same-y = go y }
+  where
+    go : (z : ℤ) → z *ℤ w ≡ (pos 0 *ℤ R +ℤ z) *ℤ w
+    go z = ring (R ∷ z ∷ w ∷ []) (var 1 ⊗ var 2) ((con (pos 0) ⊗ var 0 ⊕ var 1) ⊗ var 2) tt
+
+module _ {R : ℤ} (hR : pos crossingNeed ≤ℤ R) (A B : Piece) (fA : Fit A) (fB : Fit B) (apart : pos 0 <ℤ size (cross (A .d) (B .d))) where
+  M : Spot
+  M = meet A B (sgn (cross (A .d) (B .d))) (size (cross (A .d) (B .d))) (sgn-mul-self (cross (A .d) (B .d))) apart
+
+  on-A : Reached (A .p) (A .d) (sgn (cross (A .d) (B .d)) *ℤ cross (A .p ⇀ B .p) (B .d)) M
+  unfolding M
+  on-A = reached-A A B (sgn (cross (A .d) (B .d))) (size (cross (A .d) (B .d))) (sgn-mul-self (cross (A .d) (B .d))) apart
+
+  on-B : Reached (B .p) (B .d) (sgn (cross (A .d) (B .d)) *ℤ cross (A .p ⇀ B .p) (A .d)) M
+  unfolding M
+  on-B = reached-B A B (sgn (cross (A .d) (B .d))) (size (cross (A .d) (B .d))) (sgn-mul-self (cross (A .d) (B .d))) apart
+
+  small-x : Within 64000000000 (sgn (cross (A .d) (B .d)) *ℤ meetX A B)
+  small-x = w-mul (w-sgn (cross (A .d) (B .d))) (w-sub (w-mul (fA .small-k) (fB .small-d .in-x)) (w-mul (fB .small-k) (fA .small-d .in-x)))
+
+  small-y : Within 64000000000 (sgn (cross (A .d) (B .d)) *ℤ meetY A B)
+  small-y = w-mul (w-sgn (cross (A .d) (B .d))) (w-sub (w-mul (fA .small-k) (fB .small-d .in-y)) (w-mul (fB .small-k) (fA .small-d .in-y)))
+
+  M-in : InSquare R M
+  unfolding M meet
+  M-in = near small-x small-y hR
+
+  M-at : Same M (spotAt R (divided (meetingPoint A B)) (divided-above (meetingPoint A B) apart))
+  unfolding M meet
+  M-at =
+      same-trans
+      (standing R (sgn (cross (A .d) (B .d)) *ℤ meetX A B) (sgn (cross (A .d) (B .d)) *ℤ meetY A B) (size (cross (A .d) (B .d))) apart)
+      (divided-spot (meetingPoint A B) apart R)
+
+  -- "Standard: .. w at most 32,000,000, nx and ny within 64,000,000,000"
+  meeting-point : APoint (divided (meetingPoint A B))
+  meeting-point = a-standard (standard-divided raw) (divided-one (meetingPoint A B) apart)
+    where
+      raw : Standard (meetingPoint A B)
+      raw = record {
+        no-mx = refl;
+        no-my = refl;
+        in-w = record {
+          above = apart;
+          at-most = w-size (w-sub (w-mul (fA .small-d .in-x) (fB .small-d .in-y)) (w-mul (fA .small-d .in-y) (fB .small-d .in-x)));
+        };
+        in-nx = small-x;
+        in-ny = small-y;
+      }
+
+  M-only : (S : Spot) → Both (Part R A) (Part R B) S → Same S M
+  unfolding M
+  M-only S s =
+      meet-only A B (sgn (cross (A .d) (B .d))) (size (cross (A .d) (B .d))) (sgn-mul-self (cross (A .d) (B .d))) apart S
+      (s .first .on) (s .second .on)
+
+  test : Bool
+  test =
+      reaches A (sgn (cross (A .d) (B .d)) *ℤ cross (A .p ⇀ B .p) (B .d)) (size (cross (A .d) (B .d)))
+      && reaches B (sgn (cross (A .d) (B .d)) *ℤ cross (A .p ⇀ B .p) (A .d)) (size (cross (A .d) (B .d)))
+
+  test-is : (test ≡ true) ↔ (Between (A .d) (A .start) (A .stop) M × Between (B .d) (B .start) (B .stop) M)
+  unfolding test M meet
+  test-is =
+      let b =
+      both (reaches A (sgn (cross (A .d) (B .d)) *ℤ cross (A .p ⇀ B .p) (B .d)) (size (cross (A .d) (B .d))))
+      (reaches B (sgn (cross (A .d) (B .d)) *ℤ cross (A .p ⇀ B .p) (A .d)) (size (cross (A .d) (B .d)))) in
+      let f = reaches-test A fA (sgn (cross (A .d) (B .d)) *ℤ cross (A .p ⇀ B .p) (B .d)) M on-A in
+      let g = reaches-test B fB (sgn (cross (A .d) (B .d)) *ℤ cross (A .p ⇀ B .p) (A .d)) M on-B in
+      ((λ t. let c = b .0 t in (f .0 (c .0), g .0 (c .1))), (λ c. b .1 (f .1 (c .0), g .1 (c .1))))
+
+  skew-says : Says R (Both (Part R A) (Part R B)) (skew A B)
+  unfolding test
+  skew-says =
+      cond-by (Says R (Both (Part R A) (Part R B))) test
+      (λ t. let c = test-is .0 t in
+      says-point (divided-above (meetingPoint A B) apart) meeting-point
+      (record {
+        first = part-same M-at (record { on = reached-on (A .p) (A .d) _ M on-A; between = c .0; in-square = M-in });
+        second = part-same M-at (record { on = reached-on (B .p) (B .d) _ M on-B; between = c .1; in-square = M-in });
+      })
+      (λ S s. same-trans (M-only S s) M-at))
+      (λ f. says-none (λ S s.
+      true≢false (sym (test-is .1 (between-same (M-only S s) (s .first .between), between-same (M-only S s) (s .second .between))) ∙ f)))
+
+-- ---- parallel, and not on one line
+
+on-one : (A B : Piece) → Fit B → A .d .x *ℤ B .d .y ≡ A .d .y *ℤ B .d .x → (S : Spot) → OnLine (A .p) (A .d) S → OnLine (B .p) (B .d) S
+    → cross (A .d) (A .p ⇀ B .p) ≡ pos 0
+on-one A B fB par S f g =
+    let k = online-over (B .d) (A .d) (par-sym (A .d) (B .d) par) (fB .len) (online-p (B .p) (B .d)) g in
+    eq-by (S .W) (S .above) _ (z-add (z-eq (pos 1) (f .online)) (z-eq (negsuc 0) (k .online)))
+    (reify (A .d .x ∷ A .d .y ∷ A .p .x ∷ A .p .y ∷ B .p .x ∷ B .p .y ∷ S .X ∷ S .Y ∷ S .W ∷ [])
+    (λ ρ v. simp (reading, v 0, v 1, v 2, v 3, v 4, v 5, v 6, v 7, v 8, val-pos ρ, val-negsuc ρ) (solve _ _ _ tt)))
+
+-- ---- all
+
+size-above : (z : ℤ) → (z ≡ pos 0 → ⊥) → pos 0 <ℤ size z
+size-above (pos zero) n = absurd (n refl)
+size-above (pos (suc k)) n = pp-pos k
+size-above (negsuc k) n = pp-pos k
+
+pub pieces-says : {R : ℤ} → pos crossingNeed ≤ℤ R → (A B : Piece) → Fit A → Fit B → Says R (Both (Part R A) (Part R B)) (pieces A B)
+unfolding pieces
+pieces-says {R} hR A B fA fB =
+    cond-by (Says R (Both (Part R A) (Part R B))) (eqZ (cross (A .d) (B .d)) (pos 0))
+    (λ t. let par = eq-of-sub (A .d .x *ℤ B .d .y) (A .d .y *ℤ B .d .x) (eqZ-true t) in
+    cond-by (Says R (Both (Part R A) (Part R B))) (eqZ (cross (A .d) (A .p ⇀ B .p)) (pos 0))
+    (λ u. let off : cross (A .d) (A .p ⇀ B .p) ≡ pos 0 = eqZ-true u in
+    together-says (≤-trans (leZ-yes tt) hR) A B fA fB par (record {
+      online =
+          eq-cert _ off
+          (reify (A .d .x ∷ A .d .y ∷ A .p .x ∷ A .p .y ∷ B .p .x ∷ B .p .y ∷ [])
+          (λ ρ v. simp (reading, v 0, v 1, v 2, v 3, v 4, v 5, val-pos ρ) (solve _ _ _ tt)));
+    }))
+    (λ u. says-none (λ S s. eqZ-false u (on-one A B fB par S (s .first .on) (s .second .on)))))
+    (λ t. skew-says hR A B fA fB (size-above (cross (A .d) (B .d)) (eqZ-false t)))

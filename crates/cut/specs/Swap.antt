@@ -1,0 +1,95 @@
+-- What follows for crossing itself, by looking at one R. To cite:
+--   crossing-is-point   the point that crossing gives is a point of the paper, within its limits
+--   crossing-swap       the two objects changed over
+--   crossing-self       an object with itself
+use mathlib.Core.Path.{_≡_, sym, _∙_, ap}
+use mathlib.Core.Bool.{true}
+use lib.IntN.{ℤ, pos, _*ℤ_}
+use lib.Signed.{_<ℤ_, ltZ-yes, leZ-yes}
+use Rattle.whole.specs.Laws.{mul-one}
+use Rattle.sheet.specs.declared.Object.{Object}
+use Rattle.sheet.specs.declared.Point.{Point}
+use Rattle.sheet.specs.Figure.{Vec, _⇀_, Figure}
+use Rattle.sheet.specs.Refusal.{Accepted}
+use Rattle.sheet.specs.RefusalLaws.{Small, Proper}
+use Rattle.sheet.specs.Points.{isPoint}
+use Rattle.sheet.specs.PointsLaws.{APoint, point-is}
+use Rattle.sheet.specs.Crossing.{Meeting, point, many, crossingOf}
+use Rattle.cut.specs.Bounds.{smallBound}
+use Rattle.cut.specs.Place.{Place, put, fixed}
+use Rattle.cut.specs.Cut.{InSquare, On, on-segment, on-ray, on-line, Shared}
+use Rattle.cut.specs.Claims.{Answered}
+use Rattle.cut.specs.Line.{upto-refl, online-p, online-q, upto-pq}
+use Rattle.cut.specs.Square.{near}
+use Rattle.cut.specs.EndsAt.{Drawn, draw-segment, draw-ray, draw-line, draw-side, accepted-drawn}
+use Rattle.cut.specs.Says.{Both, Says, says-many}
+use Rattle.cut.specs.SidesMeet.{same-says}
+use Rattle.cut.specs.SameNumbers.{same-numbers-at}
+use Rattle.cut.specs.CrossingAt.{Tells, tells-none, tells-point, tells-many, tells, crossing-tells, point-said, none-when, many-when, point-when}
+
+pub crossing-is-point : {a b : Object} → Accepted a → Accepted b → (e : Point) → crossingOf a b ≡ point e → isPoint e ≡ true
+crossing-is-point s t e q = point-said (crossing-tells {R = smallBound} (leZ-yes tt) s t) e q .is-point
+
+-- ---- changed over
+
+shared-swap : {R : ℤ} {a b : Object} (P : Place) → Shared R a b P → Shared R b a P
+shared-swap P s = record { on-first = s .on-second; on-second = s .on-first }
+
+pub crossing-swap : {a b : Object} → Accepted a → Accepted b → crossingOf a b ≡ crossingOf b a
+crossing-swap {a} {b} s t = go (crossing-tells (leZ-yes tt) s t)
+  where
+    other : Tells smallBound b a (crossingOf b a)
+    other = crossing-tells (leZ-yes tt) t s
+
+    is : {e : Point} → APoint e → (h : pos 0 <ℤ e .w) → Answered smallBound (crossingOf b a) (put smallBound e h) → point e ≡ crossingOf b a
+    is {e} i h r =
+        let j = point-is (r .e) .0 (point-said other (r .e) (r .is-said) .is-point) in
+        ap point (same-numbers-at {R = smallBound} (ltZ-yes tt) i j h (r .above) (r .there)) ∙ sym (r .is-said)
+
+    go : {m : Meeting} → Tells smallBound a b m → m ≡ crossingOf b a
+    go (tells-none n) = sym (none-when other (record { nothing = λ P r. n .nothing P (shared-swap P r) }))
+    go (tells-point {e = e} h i o) =
+        is i h (point-when other (put smallBound e h) (record {
+          is-shared = shared-swap (put smallBound e h) (o .is-shared);
+          no-other = λ Q r. o .no-other Q (shared-swap Q r);
+        }))
+    go (tells-many w) = sym (many-when other (record {
+      one = w .one;
+      other = w .other;
+      one-shared = shared-swap (w .one) (w .one-shared);
+      other-shared = shared-swap (w .other) (w .other-shared);
+      differ = w .differ;
+    }))
+
+-- ---- with itself: p and q are two places of it, or the corners
+
+two : {f : Figure} {p q : Vec} → Proper p q → On smallBound f (fixed p) → On smallBound f (fixed q)
+    → Says smallBound (Both (On smallBound f) (On smallBound f)) many
+two {p = p} {q = q} a f g =
+    says-many (fixed p) (fixed q) (record { first = f; second = f }) (record { first = g; second = g })
+    (λ e. a .differ (whole (e .same-x)) (whole (e .same-y)))
+  where
+    whole : {x y : ℤ} → x *ℤ pos 1 ≡ y *ℤ pos 1 → x ≡ y
+    whole {x} {y} e = sym (mul-one x) ∙ e ∙ mul-one y
+
+inside : {a : Vec} → Small 2000 a → InSquare smallBound (fixed a)
+inside s = near (s .in-x) (s .in-y) (leZ-yes tt)
+
+self-says : {f : Figure} → Drawn f → Says smallBound (Both (On smallBound f) (On smallBound f)) many
+self-says (draw-side {n = n}) = same-says (ltZ-yes tt) n
+self-says (draw-segment {p = p} {q = q} a) =
+    two a (on-segment (record { on = online-p p (p ⇀ q); not-before-p = upto-refl (p ⇀ q) (fixed p); not-beyond-q = upto-pq p q }))
+    (on-segment (record { on = online-q p q; not-before-p = upto-pq p q; not-beyond-q = upto-refl (p ⇀ q) (fixed q) }))
+self-says (draw-line {p = p} {q = q} a) =
+    two a (on-line (record { on = online-p p (p ⇀ q); cut = inside (a .small-p) }))
+    (on-line (record { on = online-q p q; cut = inside (a .small-q) }))
+self-says (draw-ray {p = p} {q = q} a) =
+    two a
+    (on-ray (record { of-line = record { on = online-p p (p ⇀ q); cut = inside (a .small-p) }; from-p = upto-refl (p ⇀ q) (fixed p) }))
+    (on-ray (record { of-line = record { on = online-q p q; cut = inside (a .small-q) }; from-p = upto-pq p q }))
+
+pub crossing-self : {a : Object} → Accepted a → crossingOf a a ≡ many
+crossing-self {a} s = go (tells (self-says (accepted-drawn s)))
+  where
+    go : Tells smallBound a a many → crossingOf a a ≡ many
+    go (tells-many w) = many-when (crossing-tells (leZ-yes tt) s s) w
