@@ -1,0 +1,84 @@
+// Words and numbers on standard output.
+use sheet::Ends;
+use sheet::Made;
+use sheet::Object;
+use sheet::Point;
+use sheet::Signed;
+
+pub fn text(words: &[u8]) {
+    io::write_all(1, words);
+}
+
+pub fn number(n: i64) {
+    if n < 0 {
+        text(b" -");
+    } else {
+        text(b" ");
+    }
+    io::print_decimal(1, whole::size(n));
+}
+
+pub fn count(n: u64) {
+    text(b" ");
+    io::print_decimal(1, n);
+}
+
+pub fn end() {
+    text(b"\n");
+}
+
+pub fn refused(n: i64) {
+    text(b" refused");
+    number(n);
+    end();
+}
+
+pub fn point(p: Point) {
+    text(b" point");
+    number(p.mx);
+    number(p.nx);
+    number(p.my);
+    number(p.ny);
+    number(p.w);
+}
+
+pub fn object(o: Object) {
+    text(b" object");
+    number(o.kind);
+    number(o.px);
+    number(o.py);
+    number(o.qx);
+    number(o.qy);
+}
+
+pub fn made(m: Made) {
+    match m {
+        Made::Done(o) => {
+            object(o);
+            end();
+        }
+        Made::Refused(n) => refused(n),
+    }
+}
+
+pub fn ends(e: Ends) {
+    match e {
+        Ends::Both(first, last) => {
+            point(first);
+            point(last);
+            end();
+        }
+        Ends::Refused(n) => refused(n),
+    }
+}
+
+pub fn signed(s: Signed) {
+    match s {
+        Signed::Sign(n) => {
+            text(b" sign");
+            number(n);
+            end();
+        }
+        Signed::Refused(n) => refused(n),
+    }
+}

@@ -1,0 +1,185 @@
+"""Document 01 once more, in exact fractions and with no formula of the kernel: objects are cut at a concrete R and intersected as
+ordinary closed segments; what holds for every R is read off two R. Used by the programs of tests/ to compare with."""
+from fractions import Fraction
+from math import gcd
+
+REACH, MOST = 2000, 512
+FRAMES = (2 * 10**18, 3 * 10**18 + 7)
+
+
+class Refused(Exception):
+    def __init__(self, number):
+        self.number = number
+
+
+# ---- stored drawings
+
+def stored_number(data, at):
+    """The number that begins at `at`, and where the next begins."""
+    if at >= len(data):
+        raise Refused(7)
+    first = data[at]
+    if first < 128:
+        return first, at + 1
+    if at + 1 >= len(data):
+        raise Refused(7)
+    second = data[at + 1]
+    if second >= 128 or second == 0:
+        raise Refused(8)
+    return (first - 128) + 128 * second, at + 2
+
+
+def read(data):
+    """The objects of a stored drawing, each a tuple (kind, px, py, qx, qy)."""
+    count, at = stored_number(data, 0)
+    if count > MOST:
+        raise Refused(11)
+    objects = []
+    for _ in range(count):
+        kind, at = stored_number(data, at)
+        if not 1 <= kind <= 4:
+            raise Refused(1)
+        if kind == 4:
+            side, at = stored_number(data, at)
+            if not 1 <= side <= 4:
+                raise Refused(4)
+            objects.append((4, side, 0, 0, 0))
+            continue
+        numbers = []
+        for _ in range(4):
+            folded, at = stored_number(data, at)
+            number = folded // 2 if folded % 2 == 0 else -(folded + 1) // 2
+            if abs(number) > REACH:
+                raise Refused(2)
+            numbers.append(number)
+        if numbers[:2] == numbers[2:]:
+            raise Refused(3)
+        objects.append((kind, *numbers))
+    if at != len(data):
+        raise Refused(9)
+    return objects
+
+
+def write_number(number):
+    return bytes([number]) if number < 128 else bytes([number % 128 + 128, number // 128])
+
+
+def write(objects):
+    out = write_number(len(objects))
+    for kind, *numbers in objects:
+        out += write_number(kind)
+        if kind == 4:
+            out += write_number(numbers[0])
+        else:
+            for n in numbers:
+                out += write_number(2 * n if n >= 0 else -2 * n - 1)
+    return out
+
+
+# ---- an object cut at the square from -R to R: the two ends of a closed segment, in its direction
+
+def cut(obj, R):
+    kind, px, py, qx, qy = obj
+    if kind == 4:
+        corners = [(-R, R), (-R, -R), (R, -R), (R, R), (-R, R)]
+        return corners[px - 1], corners[px]
+    if kind == 1:
+        return (px, py), (qx, qy)
+    dx, dy = qx - px, qy - py
+    # p + t d is in the square for t from low to high
+    low, high = None, None
+    for start, step in ((px, dx), (py, dy)):
+        if step == 0:
+            continue
+        bounds = sorted((Fraction(-R - start, step), Fraction(R - start, step)))
+        low = bounds[0] if low is None else max(low, bounds[0])
+        high = bounds[1] if high is None else min(high, bounds[1])
+    if kind == 2:
+        low = Fraction(0)
+    return (px + low * dx, py + low * dy), (px + high * dx, py + high * dy)
+
+
+def turn(a, b, c):
+    """Above 0 where c is left of the way from a to b."""
+    return (b[0] - a[0]) * (c[1] - a[1]) - (b[1] - a[1]) * (c[0] - a[0])
+
+
+def share(a, b):
+    """What two closed segments have in common: None, a place, or 'many'."""
+    (a0, a1), (b0, b1) = a, b
+    s0, s1 = turn(a0, a1, b0), turn(a0, a1, b1)
+    if s0 == 0 and s1 == 0:
+        # on one line: order along it is order by x, then y
+        low = max(min(a0, a1), min(b0, b1))
+        high = min(max(a0, a1), max(b0, b1))
+        if low > high:
+            return None
+        return low if low == high else 'many'
+    t0, t1 = turn(b0, b1, a0), turn(b0, b1, a1)
+    if s0 == s1 or t0 == t1:
+        return None                      # parallel and apart
+    if s0 * s1 > 0 or t0 * t1 > 0:
+        return None
+    part = Fraction(s0, 1) / (s0 - s1)
+    return (b0[0] + part * (b1[0] - b0[0]), b0[1] + part * (b1[1] - b0[1]))
+
+
+# ---- what holds for every R, from two of them
+
+def numbers(places):
+    """The five numbers of a point from its places at the two frames."""
+    R0, R1 = FRAMES
+    parts = []
+    for axis in (0, 1):
+        slope = Fraction(places[1][axis] - places[0][axis], 1) / (R1 - R0)
+        parts += [slope, places[0][axis] - slope * R0]
+    w = 1
+    for part in parts:
+        w = w * part.denominator // gcd(w, part.denominator)
+    return tuple(int(part * w) for part in parts) + (w,)
+
+
+def crossing(a, b, pieces):
+    """None, 'many', or the five numbers. `pieces[i][k]` is object i cut at frame k."""
+    found = [share(pieces[a][k], pieces[b][k]) for k in (0, 1)]
+    kinds = [x if x in (None, 'many') else 'point' for x in found]
+    assert kinds[0] == kinds[1], 'the two frames disagree'
+    return numbers(found) if kinds[0] == 'point' else found[0]
+
+
+def rows(objects):
+    pieces = [[cut(o, R) for R in FRAMES] for o in objects]
+    for i in range(len(objects)):
+        for j in range(i + 1, len(objects)):
+            what = crossing(i, j, pieces)
+            if what is not None:
+                yield i, j, what
+
+
+def listing(data):
+    """What the program `list` prints for these bytes."""
+    try:
+        objects = read(data)
+    except Refused as no:
+        return f'refused {no.number}\n'
+    lines = [f'objects {len(objects)}']
+    for i, j, what in rows(objects):
+        lines.append(f'{i} {j} many' if what == 'many' else f'{i} {j} point ' + ' '.join(map(str, what)))
+    lines.append(f'rows {len(lines) - 1}')
+    return '\n'.join(lines) + '\n'
+
+
+def side(data, i, x, y):
+    """What the viewer's call answers: the side of object i for whole x, y."""
+    try:
+        objects = read(data)
+        if not 0 <= i < len(objects):
+            raise Refused(13)
+        if abs(x) > REACH or abs(y) > REACH:
+            raise Refused(2)
+    except Refused as no:
+        return 100 + no.number
+    kind, px, py, qx, qy = objects[i]
+    ends = cut(objects[i], FRAMES[0]) if kind == 4 else ((px, py), (qx, qy))
+    t = turn(*ends, (x, y))
+    return (t > 0) - (t < 0)
