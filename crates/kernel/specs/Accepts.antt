@@ -1,34 +1,26 @@
--- What holds of numbers that are not refused. To cite:
---   order-accepts, turn-accepts, side-accepts   the bounds of points, narrow points, and an object with a point
+-- The bounds of numbers that are not refused. To cite:
+--   order-accepts, turn-accepts, side-accepts   of points, narrow points, and an object with a point
 -- Assumes nothing.
-use mathlib.Core.Path.{_≡_, refl, ap}
-use mathlib.Core.Bool.{Bool, true, false, cond, _&&_}
-use Prim.Native.Nat.{ℕ}
-use native.Mathlib.Omega.{arith}
-use lib.IntN.{pos, natAbs}
+use mathlib.Core.Path.{_≡_}
+use mathlib.Core.Bool.{true}
+use lib.IntN.{pos}
 use Rattle.whole.specs.Bound.{w-lit}
 use Rattle.sheet.specs.declared.Object.{Object}
 use Rattle.sheet.specs.declared.Point.{Point}
-use Rattle.sheet.specs.Refusal.{objectRefusal, Accepted}
-use Rattle.sheet.specs.Points.{isPoint, narrow, pointRefusal}
-use Rattle.sheet.specs.Flags.{both}
+use Rattle.sheet.specs.Refusal.{Accepted}
+use Rattle.sheet.specs.Points.{isPoint, narrow}
 use Rattle.sheet.specs.PointsLaws.{Sizes, narrow-is, point-is, point-sizes}
-use Rattle.sheet.specs.Signs.{orderRefusal, wideRefusal, turnRefusal, sideSignRefusal}
-use Rattle.sheet.specs.AnswersLaws.{or-zero}
+use Rattle.sheet.specs.Signs.{orderRefusal, turnRefusal, sideSignRefusal}
+use Rattle.sheet.specs.AcceptsLaws.{order-taken, turn-taken, side-taken}
 use Rattle.kernel.specs.Bounds.{Slim}
 
--- 0 where a test holds, and n elsewhere
-passed : (t : Bool) {n : ℕ} → (n ≡ 0 → ⊥) → cond t (pos 0) (pos n) ≡ pos 0 → t ≡ true
-passed true d e = refl
-passed false d e = absurd (d (ap natAbs e))
+sizes : (p : Point) → isPoint p ≡ true → Sizes p
+sizes p h = point-sizes (point-is p .0 h)
 
-sizes-of : {p : Point} → pointRefusal p ≡ pos 0 → Sizes p
-unfolding pointRefusal
-sizes-of {p} h = point-sizes (point-is p .0 (passed (isPoint p) {n = 5} (λ e. omega arith) h))
-
-slim : {p : Point} → Sizes p → narrow p ≡ true → Slim p
-slim {p} s h =
-    let n = narrow-is p .0 h in
+slim : (p : Point) → isPoint p ≡ true → narrow p ≡ true → Slim p
+slim p h k =
+    let s = sizes p h in
+    let n = narrow-is p .0 k in
     record {
       bw = n .in-w .at-most;
       bmx = w-lit (s .in-mx) tt;
@@ -38,24 +30,10 @@ slim {p} s h =
     }
 
 pub order-accepts : (p q : Point) → orderRefusal p q ≡ pos 0 → Sizes p × Sizes q
-unfolding orderRefusal
-order-accepts p q h =
-    let f = or-zero (pointRefusal p) (pointRefusal q) h in
-    (sizes-of (f .0), sizes-of (f .1))
+order-accepts p q h = let t = order-taken p q h in (sizes p (t .0), sizes q (t .1))
 
 pub turn-accepts : (p q s : Point) → turnRefusal p q s ≡ pos 0 → Slim p × Slim q × Slim s
-unfolding turnRefusal
-turn-accepts p q s h =
-    let f = or-zero (pointRefusal p) _ h in
-    let g = or-zero (pointRefusal q) _ (f .1) in
-    let k = or-zero (pointRefusal s) (wideRefusal p q s) (g .1) in
-    let n = passed (narrow p && narrow q && narrow s) {n = 6} (λ e. omega arith) (k .1) in
-    let pq-s = both (narrow p && narrow q) (narrow s) .0 n in
-    let p-q = both (narrow p) (narrow q) .0 (pq-s .0) in
-    (slim (sizes-of (f .0)) (p-q .0), slim (sizes-of (g .0)) (p-q .1), slim (sizes-of (k .0)) (pq-s .1))
+turn-accepts p q s h = let t = turn-taken p q s h in (slim p (t .0) (t .3), slim q (t .1) (t .4), slim s (t .2) (t .5))
 
 pub side-accepts : (o : Object) (s : Point) → sideSignRefusal o s ≡ pos 0 → Accepted o × Sizes s
-unfolding sideSignRefusal
-side-accepts o s h =
-    let f = or-zero (objectRefusal o) (pointRefusal s) h in
-    (record { accepted = f .0 }, sizes-of (f .1))
+side-accepts o s h = let t = side-taken o s h in (t .0, sizes s (t .1))

@@ -15,3 +15,4 @@ pub mod PointsLaws
 pub mod EndsLaws
 pub mod SignsLaws
 pub mod ReversedLaws
+pub mod AcceptsLaws

@@ -1,0 +1,44 @@
+-- What demand 3 says of an answer of the code: refused by the paper's number, or what the cut pieces at R say.
+use mathlib.Core.Path.{_≡_}
+use lib.IntN.{ℤ, pos}
+use lib.Signed.{_<ℤ_}
+use Rattle.sheet.specs.declared.Object.{Object}
+use Rattle.sheet.specs.declared.Point.{Point}
+use Rattle.sheet.specs.declared.Ends.{Ends}
+use Rattle.sheet.specs.declared.Ends.the-variants as ends
+use Rattle.sheet.specs.declared.Signed.{Signed}
+use Rattle.sheet.specs.declared.Signed.the-variants as signed
+use Rattle.sheet.specs.Figure.{figure}
+use Rattle.sheet.specs.Refusal.{objectRefusal}
+use Rattle.sheet.specs.Signs.{orderRefusal, turnRefusal, sideSignRefusal}
+use Rattle.cut.specs.Place.{Place, put, spot}
+use Rattle.cut.specs.Cut.{Upto, Lies}
+use Rattle.cut.specs.Ordinary.{Ordered, determinant, signOf, way, tail, tip}
+
+-- "the two ends, put at R, are the cut piece's ends in its direction"
+pub record PieceEnds (R : ℤ) (o : Object) (p q : Point) : Type 0 where
+  pub p-above : pos 0 <ℤ p .w
+  pub q-above : pos 0 <ℤ q .w
+  pub p-on : Lies R o (put R p p-above)
+  pub q-on : Lies R o (put R q q-above)
+  pub not-before : (P : Place) → Lies R o P → Upto (way (figure o)) (spot (put R p p-above)) (spot P)
+  pub not-beyond : (P : Place) → Lies R o P → Upto (way (figure o)) (spot P) (spot (put R q q-above))
+
+pub data EndsSaid (R : ℤ) (o : Object) : Ends → Type 0 where
+  ends-refused : {n : ℤ} → n ≡ objectRefusal o → (n ≡ pos 0 → ⊥) → EndsSaid R o (ends.Refused n)
+  ends-given : {p q : Point} → objectRefusal o ≡ pos 0 → PieceEnds R o p q → EndsSaid R o (ends.Both p q)
+
+-- "order, turn and side have the ordinary signs"
+pub data OrderSaid (R : ℤ) (p q : Point) : Signed → Type 0 where
+  order-refused : {n : ℤ} → n ≡ orderRefusal p q → (n ≡ pos 0 → ⊥) → OrderSaid R p q (signed.Refused n)
+  order-given : {s : ℤ} (h : pos 0 <ℤ p .w) (k : pos 0 <ℤ q .w) → Ordered (put R p h) (put R q k) s → OrderSaid R p q (signed.Sign s)
+
+pub data TurnSaid (R : ℤ) (p q t : Point) : Signed → Type 0 where
+  turn-refused : {n : ℤ} → n ≡ turnRefusal p q t → (n ≡ pos 0 → ⊥) → TurnSaid R p q t (signed.Refused n)
+  turn-given : {s : ℤ} (h : pos 0 <ℤ p .w) (k : pos 0 <ℤ q .w) (l : pos 0 <ℤ t .w)
+      → s ≡ signOf (determinant (put R p h) (put R q k) (put R t l)) → TurnSaid R p q t (signed.Sign s)
+
+pub data SideSaid (R : ℤ) (o : Object) (t : Point) : Signed → Type 0 where
+  side-refused : {n : ℤ} → n ≡ sideSignRefusal o t → (n ≡ pos 0 → ⊥) → SideSaid R o t (signed.Refused n)
+  side-given : {s : ℤ} (l : pos 0 <ℤ t .w)
+      → s ≡ signOf (determinant (tail R (figure o)) (tip R (figure o)) (put R t l)) → SideSaid R o t (signed.Sign s)
