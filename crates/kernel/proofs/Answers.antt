@@ -7,7 +7,8 @@ use Rattle.sheet.specs.declared.Object.{Object}
 use Rattle.sheet.specs.declared.Point.{Point}
 use Rattle.sheet.specs.declared.Ends.{Ends}
 use Rattle.sheet.specs.declared.Signed.{Signed}
-use Rattle.sheet.specs.AnswersLaws.{ends-one, signed-one}
+use Rattle.sheet.specs.declared.Crossing.{Crossing}
+use Rattle.sheet.specs.AnswersLaws.{ends-one, signed-one, crossing-one}
 use Rattle.kernel.proofs.points.check_object.Reads as check-object
 use Rattle.kernel.proofs.points.check_point.Reads as check-point
 use Rattle.kernel.proofs.points.check_narrow.Reads as check-narrow
@@ -15,6 +16,7 @@ use Rattle.kernel.proofs.ends.ends_of.Reads as ends-of
 use Rattle.kernel.proofs.signs.order_points.Reads as order-points
 use Rattle.kernel.proofs.signs.turn_points.Reads as turn-points
 use Rattle.kernel.proofs.signs.side_of.Reads as side-of
+use Rattle.kernel.proofs.crossing.cross.Reads as cross
 
 pub check-object-answer :
     (κs : Lfts 0) (o : Object) (r s : ℤ) → check-object.Post κs (o, tt) r (o, tt) → check-object.Post κs (o, tt) s (o, tt) → r ≡ s
@@ -49,3 +51,7 @@ turn-points-answer κs a r s p q = signed-one r s (p ∙ sym q)
 
 pub side-of-answer : (κs : Lfts 0) (a : With) (r s : Signed) → side-of.Post κs a r a → side-of.Post κs a s a → r ≡ s
 side-of-answer κs a r s p q = signed-one r s (p ∙ sym q)
+
+pub cross-answer : (κs : Lfts 0) (a b : Object) (r s : Crossing)
+    → cross.Post κs (a, (b, tt)) r (a, (b, tt)) → cross.Post κs (a, (b, tt)) s (a, (b, tt)) → r ≡ s
+cross-answer κs a b r s p q = crossing-one r s (p ∙ sym q)

@@ -1,3 +1,4 @@
 pub mod Answers
 pub mod Det
+pub mod Eight
 pub mod Handed

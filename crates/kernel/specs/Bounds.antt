@@ -1,9 +1,11 @@
 -- What the kernel's inner functions ask of their numbers. Nothing here is part of a public promise.
 use mathlib.Core.Path.{_≡_}
+use mathlib.Core.List.{List, [], _∷_}
 use Prim.Native.Nat.{ℕ, _<_, _≤_}
-use lib.IntN.{ℤ, pos}
+use lib.IntN.{ℤ, pos, _-ℤ_, _*ℤ_}
 use lib.Signed.{_<ℤ_}
 use Rattle.whole.specs.Bound.{Within}
+use Rattle.whole.specs.Flat.{All}
 use Rattle.sheet.specs.declared.Point.{Point}
 
 -- five numbers before the common divisor goes out
@@ -61,3 +63,26 @@ pub record Pair (px py qx qy : ℤ) : Type 0 where
   pub bpy : Within 2000 py
   pub bqx : Within 2000 qx
   pub bqy : Within 2000 qy
+
+-- eight coordinates of given points
+abbrev pub eight : List ℕ
+eight = 2000 ∷ 2000 ∷ 2000 ∷ 2000 ∷ 2000 ∷ 2000 ∷ 2000 ∷ 2000 ∷ []
+
+-- the given points of two objects that are no sides
+pub record Near (px py qx qy rx ry sx sy : ℤ) : Type 0 where
+  pub near : All eight (px ∷ py ∷ qx ∷ qy ∷ rx ∷ ry ∷ sx ∷ sy ∷ [])
+
+-- their directions are not parallel
+pub record Apart (px py qx qy rx ry sx sy : ℤ) : Type 0 where
+  pub near : Near px py qx qy rx ry sx sy
+  pub apart : ((qx -ℤ px) *ℤ (sy -ℤ ry) -ℤ (qy -ℤ py) *ℤ (sx -ℤ rx)) ≡ pos 0 → ⊥
+
+-- a number whose sign is taken out of z
+pub record Turned (w z : ℤ) : Type 0 where
+  pub bz : Within 64000000000 z
+  pub other : w ≡ pos 0 → ⊥
+
+-- the way out over a side
+pub record Out (ox oy : ℤ) : Type 0 where
+  pub box : Within 1 ox
+  pub boy : Within 1 oy

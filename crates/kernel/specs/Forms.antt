@@ -5,24 +5,24 @@
 --   mixed-is              the coefficient of R in the turn is a sum of two determinants
 --   divisor-bounds        the common divisor is above 0 and small
 -- Assumes nothing.
-use mathlib.Core.Path.{_≡_, refl, sym, _∙_, ap}
+use mathlib.Core.Path.{_≡_, sym, _∙_, ap}
 use mathlib.Core.Logic.{_⊎_, inl, inr}
 use mathlib.Core.Bool.{Bool, true, false, cond, _&&_, _||_}
 use mathlib.Core.List.{[], _∷_}
-use Prim.Native.Nat.{zero, suc, _<_, _≤_}
+use Prim.Native.Nat.{_<_, _≤_}
 use native.Mathlib.Nat.{le-trans, le-of-dvd}
 use native.Mathlib.Omega.{arith}
-use lib.IntN.{ℤ, pos, negsuc, negℤ, natAbs, _+ℤ_, _-ℤ_, _*ℤ_, ℤ-discrete}
+use lib.IntN.{ℤ, pos, negℤ, natAbs, _+ℤ_, _-ℤ_, _*ℤ_, ℤ-discrete}
 use lib.Signed.{ltZ, leZ, _≤ℤ_, _<ℤ_, clashℤ}
 use Rattle.whole.specs.Sign.{sgn}
-use Rattle.whole.specs.SignLaws.{sgn-abs}
+use Rattle.whole.specs.SignLaws.{sgn-abs, size-above}
 use Rattle.whole.specs.Tests.{eqZ, eqZ-true, eq-eqZ, ltZ-true, ltZ-false, lt-ltZ, le-ltZ}
 use Rattle.sheet.specs.declared.Point.{Point}
 use Rattle.sheet.specs.Flags.{both, neither, either, not-both}
 use Rattle.sheet.specs.Ends.{flat, steep, farRaw}
 use Rattle.whole.specs.Poly.{first}
 use Rattle.whole.specs.Reify.{reify, reading, solve}
-use Rattle.whole.specs.Order.{pp-dest, pp-pos, nn-pos, ≤-trans, ≤-<-trans, ≤-antisym, ≤-of, le-or-lt}
+use Rattle.whole.specs.Order.{pp-dest, nn-pos, ≤-trans, ≤-<-trans, ≤-antisym, ≤-of, le-or-lt}
 use Rattle.whole.specs.Divisor.{gcdOf}
 use Rattle.whole.specs.DivisorLaws.{gcdOf-above}
 use Rattle.sheet.specs.PointsLaws.{divides-w}
@@ -33,11 +33,6 @@ use Rattle.kernel.specs.Bounds.{Raw}
 -- |dx| is the larger, or both are equal and sx sy k is 0 or less
 abbrev pub isFlat : ℤ → ℤ → ℤ → Bool
 isFlat dx dy k = ltZ (size dy) (size dx) || (eqZ (size dx) (size dy) && leZ (sgn dx *ℤ sgn dy *ℤ k) (pos 0))
-
-size-above : {z : ℤ} → (z ≡ pos 0 → ⊥) → pos 0 <ℤ size z
-size-above {z = pos zero} n = absurd (n refl)
-size-above {z = pos (suc k)} n = pp-pos k
-size-above {z = negsuc k} n = pp-pos k
 
 -- a size is 0 of 0 alone, and is not below 0
 size-zero : (z : ℤ) → size z ≤ℤ pos 0 → z ≡ pos 0

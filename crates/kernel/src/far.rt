@@ -11,7 +11,7 @@ ghost use Rattle.kernel.specs.Bounds.{Direction, Ahead};
 ghost use Rattle.kernel.specs.Forms.{isFlat};
 
 // |z|
-fn abs(z: i64) -> i64
+pub fn abs(z: i64) -> i64
     requires { ⌜ Within 4000 z ⌝ }
     ensures { λ r. ⌜ r ≡ size z ⌝ }
 {
@@ -22,7 +22,7 @@ fn abs(z: i64) -> i64
 }
 
 // The end is on the left or the right side: |dx| is the larger, or both are equal and sx sy k is 0 or less.
-fn is_flat(dx: i64, dy: i64, k: i64) -> bool
+pub fn is_flat(dx: i64, dy: i64, k: i64) -> bool
     requires { ⌜ Direction dx dy k ⌝ }
     ensures { λ r. ⌜ r ≡ isFlat dx dy k ⌝ }
 {

@@ -11,7 +11,10 @@ use Rattle.sheet.specs.declared.Ends.{Ends}
 use Rattle.sheet.specs.declared.Ends.the-variants as ends
 use Rattle.sheet.specs.declared.Signed.{Signed}
 use Rattle.sheet.specs.declared.Signed.the-variants as signed
+use Rattle.sheet.specs.declared.Crossing.{Crossing}
+use Rattle.sheet.specs.declared.Crossing.the-variants as crossing
 use Rattle.sheet.specs.Points.{numbers}
+use Rattle.sheet.specs.Crossing.{Meeting, none, point, many}
 
 -- the values where the number is 0, else the number
 abbrev pub answer : ℤ → List ℤ → List ℤ
@@ -31,3 +34,15 @@ endsSay (ends.Refused n) = n ∷ []
 abbrev pub signedSays : Signed → List ℤ
 signedSays (signed.Sign s) = pos 0 ∷ s ∷ []
 signedSays (signed.Refused n) = n ∷ []
+
+-- "The answer is none, point or many": 0, 1 with the five numbers, 2
+abbrev pub meetingNumbers : Meeting → List ℤ
+meetingNumbers none = pos 0 ∷ []
+meetingNumbers (point e) = pos 1 ∷ numbers e
+meetingNumbers many = pos 2 ∷ []
+
+abbrev pub crossingSays : Crossing → List ℤ
+crossingSays crossing.Nothing = pos 0 ∷ pos 0 ∷ []
+crossingSays (crossing.Once p) = pos 0 ∷ pos 1 ∷ numbers p
+crossingSays crossing.Many = pos 0 ∷ pos 2 ∷ []
+crossingSays (crossing.Refused n) = n ∷ []

@@ -2,7 +2,8 @@
 --   refused, accepted           what `answer` says where the number is not 0, and where it is
 --   says-refused, says-accepted the same from the code's test of a call's result
 --   or-zero                     several checks in turn find nothing
---   made-one, ends-one, signed-one   no two values of an answer say the same numbers
+--   refused-first, refused-next   the first that finds something, from the code's test; what comes after one that finds nothing
+--   made-one, ends-one, signed-one, crossing-one   no two values of an answer say the same numbers
 -- Assumes nothing.
 use mathlib.Core.Path.{_≡_, refl, sym, _∙_, ap, ap₂}
 use mathlib.Core.Bool.{Bool, true, false, cond}
@@ -22,9 +23,11 @@ use Rattle.sheet.specs.declared.Ends.{Ends}
 use Rattle.sheet.specs.declared.Ends.the-variants as ends
 use Rattle.sheet.specs.declared.Signed.{Signed}
 use Rattle.sheet.specs.declared.Signed.the-variants as signed
+use Rattle.sheet.specs.declared.Crossing.{Crossing}
+use Rattle.sheet.specs.declared.Crossing.the-variants as crossing
 use Rattle.sheet.specs.Points.{numbers}
 use Rattle.sheet.specs.Signs.{orElse}
-use Rattle.sheet.specs.Answers.{answer, objectNumbers, madeSays, endsSay, signedSays}
+use Rattle.sheet.specs.Answers.{answer, objectNumbers, madeSays, endsSay, signedSays, crossingSays}
 
 pub accepted : {n : ℤ} (values : List ℤ) → n ≡ pos 0 → answer n values ≡ pos 0 ∷ values
 accepted {n} values e = simp (eq-eqZ e)
@@ -49,6 +52,19 @@ or-zero n m h = go (eqZ n (pos 0)) (eqZ-true {a = n} {b = pos 0}) (eqZ-false {a 
     go : (t : Bool) → (t ≡ true → n ≡ pos 0) → (t ≡ false → n ≡ pos 0 → ⊥) → cond t m n ≡ pos 0 → (n ≡ pos 0) × (m ≡ pos 0)
     go true f g e = (f refl, e)
     go false f g e = absurd (g refl e)
+
+-- of several checks in turn: r, the result for n, is not 0; or it is 0, and what comes after it is left
+pub refused-first : {r n : ℤ} (m : ℤ) → r ≡ n → (ofZ w64 r ≡ 0 → ⊥) → r ≡ orElse n m
+refused-first {r} {n} m e d = e ∙ sym (or-first m (λ z. eq-left {x = r} {y = pos 0} d (e ∙ z)))
+  where
+    or-first : {n : ℤ} (m : ℤ) → (n ≡ pos 0 → ⊥) → orElse n m ≡ n
+    or-first m d = simp (ne-eqZ d)
+
+pub refused-next : {r n : ℤ} (m : ℤ) → SFits w64 r → r ≡ n → ofZ w64 r ≡ 0 → orElse n m ≡ m
+refused-next m f e z = or-next m (sym e ∙ eq-taken f (fits64 (w-pos 0) tt) z)
+  where
+    or-next : {n : ℤ} (m : ℤ) → n ≡ pos 0 → orElse n m ≡ m
+    or-next m e = simp (eq-eqZ e)
 
 -- ---- no two values say the same
 
@@ -90,3 +106,21 @@ signed-one (signed.Sign a) (signed.Sign b) e = let e1 : a ≡ b = cc in ap signe
 signed-one (signed.Sign a) (signed.Refused n) e = let z : _≡_ {A = ℕ} 0 1 = cc in absurd (omega arith)
 signed-one (signed.Refused n) (signed.Sign b) e = let z : _≡_ {A = ℕ} 0 1 = cc in absurd (omega arith)
 signed-one (signed.Refused n) (signed.Refused m) e = let e1 : n ≡ m = cc in ap signed.Refused e1
+
+pub crossing-one : (r s : Crossing) → crossingSays r ≡ crossingSays s → r ≡ s
+crossing-one crossing.Nothing crossing.Nothing e = refl
+crossing-one crossing.Nothing (crossing.Once q) e = let z : _≡_ {A = ℕ} 0 1 = cc in absurd (omega arith)
+crossing-one crossing.Nothing crossing.Many e = let z : _≡_ {A = ℕ} 0 2 = cc in absurd (omega arith)
+crossing-one crossing.Nothing (crossing.Refused m) e = let z : _≡_ {A = ℕ} 0 1 = cc in absurd (omega arith)
+crossing-one (crossing.Once p) crossing.Nothing e = let z : _≡_ {A = ℕ} 0 1 = cc in absurd (omega arith)
+crossing-one (crossing.Once p) (crossing.Once q) e = let e1 : numbers p ≡ numbers q = cc in ap crossing.Once (point-one p q e1)
+crossing-one (crossing.Once p) crossing.Many e = let z : _≡_ {A = ℕ} 1 2 = cc in absurd (omega arith)
+crossing-one (crossing.Once p) (crossing.Refused m) e = let z : _≡_ {A = ℕ} 0 1 = cc in absurd (omega arith)
+crossing-one crossing.Many crossing.Nothing e = let z : _≡_ {A = ℕ} 0 2 = cc in absurd (omega arith)
+crossing-one crossing.Many (crossing.Once q) e = let z : _≡_ {A = ℕ} 1 2 = cc in absurd (omega arith)
+crossing-one crossing.Many crossing.Many e = refl
+crossing-one crossing.Many (crossing.Refused m) e = let z : _≡_ {A = ℕ} 0 1 = cc in absurd (omega arith)
+crossing-one (crossing.Refused n) crossing.Nothing e = let z : _≡_ {A = ℕ} 0 1 = cc in absurd (omega arith)
+crossing-one (crossing.Refused n) (crossing.Once q) e = let z : _≡_ {A = ℕ} 0 1 = cc in absurd (omega arith)
+crossing-one (crossing.Refused n) crossing.Many e = let z : _≡_ {A = ℕ} 0 1 = cc in absurd (omega arith)
+crossing-one (crossing.Refused n) (crossing.Refused m) e = let e1 : n ≡ m = cc in ap crossing.Refused e1

@@ -16,3 +16,5 @@ pub mod EndsLaws
 pub mod SignsLaws
 pub mod ReversedLaws
 pub mod AcceptsLaws
+pub mod OnLine
+pub mod CrossingLaws

@@ -44,6 +44,14 @@ pub enum Signed {
     Refused(i64),
 }
 
+// What two objects share: nothing, one point, or many; or the number of the refusal.
+pub enum Crossing {
+    Nothing,
+    Once(Point),
+    Many,
+    Refused(i64),
+}
+
 impl Object {
     // The largest coordinate, either way.
     pub const REACH: i64 = 2000;

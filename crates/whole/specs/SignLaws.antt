@@ -4,7 +4,7 @@
 --   pos-of-sgn, neg-of-sgn, zero-of-sgn   the order from the sign
 --   sgn-neg-eq, sgn-mul, sgn-mul-pos      of an opposite, of a product
 --   sgn-sgn, sgn-abs, sgn-mul-self        a sign's sign; sgn z |z| = z; sgn z z = |z|
---   nn-size, neg-size                     |z| where z is 0 or more, and below 0
+--   nn-size, neg-size, size-above         |z| where z is 0 or more, and below 0; it is above 0 where z is not 0
 -- Assumes nothing.
 use mathlib.Core.Path.{_≡_, refl, sym, _∙_, ap}
 use mathlib.Core.List.{[], _∷_}
@@ -14,7 +14,7 @@ use lib.IntN.{ℤ, pos, negsuc, negℤ, natAbs, _*ℤ_, negℤ-negℤ, zero-*ℤ
 use lib.Signed.{_≤ℤ_, _<ℤ_}
 use Rattle.whole.specs.Laws.{neg-mul, mul-one, one-mul}
 use Rattle.whole.specs.Ring.{var, lit, _⊗_, ⊝_, ring}
-use Rattle.whole.specs.Order.{nn-dest, pp-dest, pp-mul, <-neg, Tri, tri, less, same, more}
+use Rattle.whole.specs.Order.{nn-dest, pp-dest, pp-mul, pp-pos, <-neg, Tri, tri, less, same, more}
 use Rattle.whole.specs.Sign.{sgn}
 
 pub sgn-pos : {z : ℤ} → pos 0 <ℤ z → sgn z ≡ pos 1
@@ -123,3 +123,8 @@ neg-size {z} h = sym (negsgn (sgn-neg h)) ∙ sgn-mul-self z
   where
     negsgn : sgn z ≡ negsuc 0 → sgn z *ℤ z ≡ negℤ z
     negsgn e = ap (λ (s : ℤ). s *ℤ z) e ∙ neg-mul (pos 1) z ∙ ap negℤ (one-mul z)
+
+pub size-above : {z : ℤ} → (z ≡ pos 0 → ⊥) → pos 0 <ℤ pos (natAbs z)
+size-above {z = pos zero} n = absurd (n refl)
+size-above {z = pos (suc k)} n = pp-pos k
+size-above {z = negsuc k} n = pp-pos k

@@ -1,0 +1,58 @@
+-- The code of two pieces: its eight numbers px, py, qx, qy, rx, ry, sx, sy as locals 0 to 7, what it computes of them, and how they are
+-- handed on. To cite:
+--   dxE, dyE, fxE, fyE, exE, eyE, acrossE   the differences and the cross product, as the code writes them
+--   ρ8                      the list of the locals
+--   near-out, apart-out     what an inner function asks, of the numbers as they come out of locals
+--   piece-out               the piece of numbers out of locals
+--   say                     what an accepted crossing says
+use mathlib.Core.Path.{_≡_, sym, _∙_}
+use mathlib.Core.List.{List, [], _∷_}
+use lib.IntN.{ℤ, pos, _-ℤ_, _*ℤ_}
+use mir.Syntax.{w64}
+use mir.Val.{SFits}
+use Rattle.whole.specs.Ring.{Expr, var, _⊖_, _⊗_}
+use Rattle.whole.specs.Flat.{none, _also_, held}
+use Rattle.whole.specs.Tests.{out, out-is}
+use Rattle.sheet.specs.Crossing.{Meeting, Piece}
+use Rattle.sheet.specs.Answers.{meetingNumbers}
+use Rattle.kernel.specs.Bounds.{Near, Apart}
+use Rattle.kernel.specs.Pieces.{piece}
+
+abbrev pub dxE : Expr
+dxE = var 2 ⊖ var 0
+
+abbrev pub dyE : Expr
+dyE = var 3 ⊖ var 1
+
+abbrev pub fxE : Expr
+fxE = var 6 ⊖ var 4
+
+abbrev pub fyE : Expr
+fyE = var 7 ⊖ var 5
+
+abbrev pub exE : Expr
+exE = var 4 ⊖ var 0
+
+abbrev pub eyE : Expr
+eyE = var 5 ⊖ var 1
+
+abbrev pub acrossE : Expr
+acrossE = dxE ⊗ fyE ⊖ dyE ⊗ fxE
+
+abbrev pub say : Meeting → List ℤ
+say m = pos 0 ∷ meetingNumbers m
+
+module _ {px py qx qy rx ry sx sy : ℤ} where
+  pub near-out : Near px py qx qy rx ry sx sy → Near (out px) (out py) (out qx) (out qy) (out rx) (out ry) (out sx) (out sy)
+  near-out h =
+      let b = h .near in
+      record {
+        near =
+            held b (var 0) tt also held b (var 1) tt also held b (var 2) tt also held b (var 3) tt
+            also held b (var 4) tt also held b (var 5) tt also held b (var 6) tt also held b (var 7) tt also none;
+      }
+
+pub piece-out :
+    {kind px py qx qy : ℤ} → SFits w64 kind → SFits w64 px → SFits w64 py → SFits w64 qx → SFits w64 qy
+    → piece (out kind) (out px) (out py) (out qx) (out qy) ≡ piece kind px py qx qy
+piece-out k a b c d = λ i. piece (out-is k i) (out-is a i) (out-is b i) (out-is c i) (out-is d i)

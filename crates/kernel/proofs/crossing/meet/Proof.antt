@@ -1,0 +1,78 @@
+use mathlib.Core.Path.{_≡_, sym, _∙_, ap}
+use Rattle.whole.specs.Flat.{none, _also_}
+use Rattle.whole.specs.Bound.{fits64, w-pos}
+use Rattle.whole.specs.Tests.{out, out-is, eq-taken, eq-left}
+use Rattle.sheet.specs.declared.Object.{Object}
+use Rattle.sheet.specs.Figure.{sideOf, figure}
+use Rattle.sheet.specs.Crossing.{pieces, withSide}
+use Rattle.kernel.specs.Kinds.{accepted-pair}
+use Rattle.kernel.specs.Pieces.{object, side-first, side-second, crossing-pieces}
+use Rattle.kernel.proofs.Eight.{say, near-out, piece-out}
+use borrow.Author.Needs.{needs}
+use Rattle.kernel.proofs.crossing.meet.Statement.{statement}
+use Rattle.kernel.proofs.crossing.meet.Tie as tie
+use Rattle.kernel.proofs.crossing.meet.Reads as reads
+use Rattle.kernel.proofs.crossing.meet.Lts as lts
+use Rattle.kernel.proofs.pieces.cross_pieces.Reads as cross-pieces-reads
+use Rattle.kernel.proofs.touch.with_side.Reads as with-side-reads
+
+abbrev a : tie.Start → Object
+a s = object (s .args .ka) (s .args .px) (s .args .py) (s .args .qx) (s .args .qy)
+
+abbrev b : tie.Start → Object
+b s = object (s .args .kb) (s .args .rx) (s .args .ry) (s .args .sx) (s .args .sy)
+
+-- the objects as they are handed on
+a-out : (s : tie.Start) → object (out (s .args .ka)) (out (s .args .px)) (out (s .args .py)) (out (s .args .qx)) (out (s .args .qy)) ≡ a s
+a-out s = λ i. object (out-is (s .fits .ka) i) (out-is (s .fits .px) i) (out-is (s .fits .py) i) (out-is (s .fits .qx) i) (out-is (s .fits .qy) i)
+
+b-out : (s : tie.Start) → object (out (s .args .kb)) (out (s .args .rx)) (out (s .args .ry)) (out (s .args .sx)) (out (s .args .sy)) ≡ b s
+b-out s = λ i. object (out-is (s .fits .kb) i) (out-is (s .fits .rx) i) (out-is (s .fits .ry) i) (out-is (s .fits .sx) i) (out-is (s .fits .sy) i)
+
+with-side-requires : tie.Need-with-side-requires
+with-side-requires c κs = search needs
+
+returns : tie.Need-returns
+returns c =
+    let s = c .before .before in
+    c .with-side .ensures ∙ (λ i. say (withSide (sideOf (out-is (s .fits .px) i)) (figure (b-out s i))))
+    ∙ sym (ap say (side-first (a s) (b s) (eq-taken (s .fits .ka) (fits64 (w-pos 4) tt) (c .before .if1 .taken))))
+
+with-side-requires-2 : tie.Need-with-side-requires-2
+with-side-requires-2 c κs = search needs
+
+returns-2 : tie.Need-returns-2
+returns-2 c =
+    let s = c .before .before .before in
+    c .with-side2 .ensures ∙ (λ i. say (withSide (sideOf (out-is (s .fits .rx) i)) (figure (a-out s i))))
+    ∙ sym (ap say (side-second (a s) (b s) (s .pre .0) (eq-left (c .before .before .if1 .left)) (eq-taken (s .fits .kb) (fits64 (w-pos 4) tt) (c .before .if2 .taken))))
+
+cross-pieces-requires : tie.Need-cross-pieces-requires
+cross-pieces-requires c κs =
+    let s = c .before .before in
+    let one = accepted-pair (a s) (s .pre .0) (eq-left (c .before .if1 .left)) in
+    let two = accepted-pair (b s) (s .pre .1) (eq-left (c .if2 .left)) in
+    near-out (record {
+      near =
+          one .small-p .in-x also one .small-p .in-y also one .small-q .in-x also one .small-q .in-y
+          also two .small-p .in-x also two .small-p .in-y also two .small-q .in-x also two .small-q .in-y also none;
+    })
+
+returns-3 : tie.Need-returns-3
+returns-3 c =
+    let s = c .before .before .before in
+    let A = piece-out (s .fits .ka) (s .fits .px) (s .fits .py) (s .fits .qx) (s .fits .qy) in
+    let B = piece-out (s .fits .kb) (s .fits .rx) (s .fits .ry) (s .fits .sx) (s .fits .sy) in
+    c .cross-pieces .ensures ∙ (λ i. say (pieces (A i) (B i)))
+    ∙ sym (ap say (crossing-pieces (a s) (b s) (s .pre .0) (eq-left (c .before .before .if1 .left)) (s .pre .1) (eq-left (c .before .if2 .left))))
+
+pub meet-spec : {M : Type 1} → statement M
+meet-spec =
+    tie.close
+    (tie.spec
+    with-side-requires
+    returns
+    with-side-requires-2
+    returns-2
+    cross-pieces-requires
+    returns-3)

@@ -1,0 +1,56 @@
+use mathlib.Core.Path.{_≡_, sym, _∙_, ap}
+use mathlib.Core.Bool.{Bool, cond}
+use lib.Signed.{ltZ}
+use Rattle.whole.specs.Tests.{out, out-is, out-ok, lt-flag}
+use Rattle.kernel.specs.Pieces.{at, betweenBy}
+use Rattle.kernel.proofs.Eight.{say}
+use borrow.Author.Needs.{needs}
+use Rattle.kernel.proofs.oneline.overlap.Statement.{statement}
+use Rattle.kernel.proofs.oneline.overlap.Tie as tie
+use Rattle.kernel.proofs.oneline.overlap.Reads as reads
+use Rattle.kernel.proofs.oneline.overlap.Lts as lts
+use Rattle.kernel.proofs.oneline.between.Reads as between-reads
+use Rattle.kernel.proofs.oneline.pick.Reads as pick-reads
+
+-- the sooner stop
+stop : (c : tie.After-pick) →
+    out (c .pick .result) ≡ cond (ltZ (c .before .args .hi) (c .before .args .high)) (c .before .args .hi) (c .before .args .high)
+stop c =
+    let s = c .before in
+    out-ok (c .pick .result) (c .pick .ok) ∙ c .pick .ensures
+    ∙ (λ i. cond (ltZ (out-is (s .fits .hi) i) (out-is (s .fits .high) i)) (out-is (s .fits .hi) i) (out-is (s .fits .high) i))
+
+pick-requires : tie.Need-pick-requires
+pick-requires c κs = search needs
+
+between-requires : tie.Need-between-requires
+between-requires c κs = search needs
+
+returns : tie.Need-returns
+returns c =
+    let s = c .before .before .before in
+    let flag = lt-flag (s .fits .lo) (s .fits .low) (c .before .if1 .taken) in
+    let start = out-is (s .fits .low) ∙ sym (ap (λ (t : Bool). cond t (s .args .low) (s .args .lo)) flag) in
+    let place =
+    (λ i. at (out-is (s .fits .u) i) (out-is (s .fits .v) i))
+    ∙ sym (ap (λ (t : Bool). cond t (at (s .args .u) (s .args .v)) (at (s .args .x) (s .args .y))) flag)
+    in
+    c .between .ensures ∙ (λ i. say (betweenBy (start i) (stop (c .before .before) i) (place i)))
+
+between-requires-2 : tie.Need-between-requires-2
+between-requires-2 c κs = search needs
+
+returns-2 : tie.Need-returns-2
+returns-2 c =
+    let s = c .before .before .before in
+    let flag = lt-flag (s .fits .lo) (s .fits .low) (c .before .if1 .left) in
+    let start = out-is (s .fits .lo) ∙ sym (ap (λ (t : Bool). cond t (s .args .low) (s .args .lo)) flag) in
+    let place =
+    (λ i. at (out-is (s .fits .x) i) (out-is (s .fits .y) i))
+    ∙ sym (ap (λ (t : Bool). cond t (at (s .args .u) (s .args .v)) (at (s .args .x) (s .args .y))) flag)
+    in
+    c .between2 .ensures ∙ (λ i. say (betweenBy (start i) (stop (c .before .before) i) (place i)))
+
+pub overlap-spec : {M : Type 1} → statement M
+overlap-spec =
+    tie.close (tie.spec pick-requires between-requires returns between-requires-2 returns-2)

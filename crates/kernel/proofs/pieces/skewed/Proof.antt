@@ -1,0 +1,204 @@
+use mathlib.Core.Path.{_≡_, sym, _∙_, ap, ap₂}
+use mathlib.Core.Bool.{Bool, true, cond, _&&_}
+use mathlib.Core.List.{List, [], _∷_}
+use lib.IntN.{ℤ, pos, _*ℤ_}
+use borrow.Author.Tests.{not-true, not-false}
+use Rattle.whole.specs.Sign.{sgn}
+use Rattle.whole.specs.SignLaws.{sgn-mul-self}
+use Rattle.whole.specs.Ring.{Expr, var, _⊖_, _⊗_, ev}
+use Rattle.whole.specs.Flat.{need, gives, small, held}
+use Rattle.whole.specs.Bound.{w-is, w-lit, w-pos, fits64}
+use Rattle.whole.specs.Tests.{out, out-is, out-ok}
+use Rattle.sheet.specs.Points.{size, divided}
+use Rattle.sheet.specs.Crossing.{Piece, none, point, meetingPoint, reaches}
+use Rattle.kernel.specs.Pieces.{at, piece, reachesBy, reaches-is}
+use Rattle.kernel.proofs.Eight.{dxE, dyE, fxE, fyE, exE, eyE, acrossE, say, piece-out}
+use borrow.Author.Needs.{needs}
+use Rattle.kernel.proofs.pieces.skewed.Statement.{statement}
+use Rattle.kernel.proofs.pieces.skewed.Tie as tie
+use Rattle.kernel.proofs.pieces.skewed.Reads as reads
+use Rattle.kernel.proofs.pieces.skewed.Lts as lts
+use Rattle.kernel.proofs.pieces.meeting_point.Reads as meeting-point-reads
+use Rattle.kernel.proofs.pieces.reaches.Reads as reaches-reads
+use Rattle.kernel.proofs.pieces.turned.Reads as turned-reads
+
+abbrev oneE : Expr
+oneE = exE ⊗ fyE ⊖ eyE ⊗ fxE
+
+abbrev twoE : Expr
+twoE = exE ⊗ dyE ⊖ eyE ⊗ dxE
+
+abbrev ρ : tie.Start → List ℤ
+ρ s = s .args .px ∷ s .args .py ∷ s .args .qx ∷ s .args .qy ∷ s .args .rx ∷ s .args .ry ∷ s .args .sx ∷ s .args .sy ∷ []
+
+abbrev A : tie.Start → Piece
+A s = piece (s .args .ka) (s .args .px) (s .args .py) (s .args .qx) (s .args .qy)
+
+abbrev B : tie.Start → Piece
+B s = piece (s .args .kb) (s .args .rx) (s .args .ry) (s .args .sx) (s .args .sy)
+
+-- the paper's two tests, and what it says by them
+abbrev first : tie.Start → Bool
+first s = let D = ev (ρ s) acrossE in reaches (A s) (sgn D *ℤ ev (ρ s) oneE) (size D)
+
+abbrev second : tie.Start → Bool
+second s = let D = ev (ρ s) acrossE in reaches (B s) (sgn D *ℤ ev (ρ s) twoE) (size D)
+
+abbrev shown : tie.Start → Bool → Bool → List ℤ
+shown s t u = say (cond (t && u) (point (divided (meetingPoint (A s) (B s)))) none)
+
+across-is : (s : tie.Start) → out (s .args .across) ≡ ev (ρ s) acrossE
+across-is s = out-is (s .fits .across) ∙ s .pre .1
+
+not-parallel : (s : tie.Start) → out (s .args .across) ≡ pos 0 → ⊥
+not-parallel s e = s .pre .0 .apart (sym (across-is s) ∙ e)
+
+-- the three numbers that are compared
+h-is : (c : tie.After-turned) → out (c .turned .result) ≡ sgn (ev (ρ (c .before)) acrossE) *ℤ ev (ρ (c .before)) oneE
+h-is c =
+    let s = c .before in
+    out-ok (c .turned .result) (c .turned .ok) ∙ c .turned .ensures
+    ∙ (λ i. sgn (across-is s i) *ℤ gives (s .pre .0 .near .near) oneE tt i)
+
+w-is-size : (c : tie.After-turned2) → out (c .turned2 .result) ≡ size (ev (ρ (c .before .before)) acrossE)
+w-is-size c =
+    let s = c .before .before in
+    out-ok (c .turned2 .result) (c .turned2 .ok) ∙ c .turned2 .ensures
+    ∙ (λ i. sgn (across-is s i) *ℤ across-is s i) ∙ sgn-mul-self (ev (ρ s) acrossE)
+
+abbrev start : tie.After-reaches → tie.Start
+start c = c .before .before .before
+
+g-is : (c : tie.After-turned3) → let s = start (c .before .before) in out (c .turned3 .result) ≡ sgn (ev (ρ s) acrossE) *ℤ ev (ρ s) twoE
+g-is c =
+    let s = start (c .before .before) in
+    out-ok (c .turned3 .result) (c .turned3 .ok) ∙ c .turned3 .ensures
+    ∙ (λ i. sgn (across-is s i) *ℤ gives (s .pre .0 .near .near) twoE tt i)
+
+-- the code's two tests are the paper's
+first-is : (c : tie.After-reaches) → c .reaches .result ≡ first (start c)
+first-is c =
+    let s = start c in
+    let D = ev (ρ s) acrossE in
+    c .reaches .ensures ∙ (λ i. reachesBy (out-is (s .fits .ka) i) (h-is (c .before .before) i) (w-is-size (c .before) i))
+    ∙ reaches-is (s .args .ka) (at (s .args .px) (s .args .py)) (at (s .args .qx) (s .args .qy)) (sgn D *ℤ ev (ρ s) oneE) (size D)
+
+first-yes : (c : tie.Else1) → first (start (c .before)) ≡ true
+first-yes c = sym (first-is (c .before)) ∙ not-false (c .before .reaches .result) (c .if1 .left)
+
+second-is : (c : tie.After-reaches2) → c .reaches2 .result ≡ second (start (c .before .before .before))
+second-is c =
+    let t = c .before .before .before in
+    let s = start t in
+    let D = ev (ρ s) acrossE in
+    c .reaches2 .ensures ∙ (λ i. reachesBy (out-is (s .fits .kb) i) (g-is (c .before) i) (w-is-size (t .before) i))
+    ∙ reaches-is (s .args .kb) (at (s .args .rx) (s .args .ry)) (at (s .args .sx) (s .args .sy)) (sgn D *ℤ ev (ρ s) twoE) (size D)
+
+sub-dx : tie.Need-sub-dx
+sub-dx c = need (c .pre .0 .near .near) dxE tt
+
+sub-dy : tie.Need-sub-dy
+sub-dy c = need (c .pre .0 .near .near) dyE tt
+
+sub-fx : tie.Need-sub-fx
+sub-fx c = need (c .pre .0 .near .near) fxE tt
+
+sub-fy : tie.Need-sub-fy
+sub-fy c = need (c .pre .0 .near .near) fyE tt
+
+sub-ex : tie.Need-sub-ex
+sub-ex c = need (c .pre .0 .near .near) exE tt
+
+sub-ey : tie.Need-sub-ey
+sub-ey c = need (c .pre .0 .near .near) eyE tt
+
+mul-one : tie.Need-mul-one
+mul-one c = need (c .pre .0 .near .near) (exE ⊗ fyE) tt
+
+mul-one-2 : tie.Need-mul-one-2
+mul-one-2 c = need (c .pre .0 .near .near) (eyE ⊗ fxE) tt
+
+sub-one : tie.Need-sub-one
+sub-one c = need (c .pre .0 .near .near) oneE tt
+
+turned-requires : tie.Need-turned-requires
+turned-requires c κs = record { bz = w-lit (held (c .pre .0 .near .near) oneE tt) tt; other = not-parallel c }
+
+turned-requires-2 : tie.Need-turned-requires-2
+turned-requires-2 c κs =
+    let s = c .before in
+    record { bz = w-lit (w-is (across-is s) (small (s .pre .0 .near .near) acrossE tt)) tt; other = not-parallel s }
+
+reaches-requires : tie.Need-reaches-requires
+reaches-requires c κs = search needs
+
+returns : tie.Need-returns
+returns c =
+    let d = c .before in
+    let s = start d in
+    sym (ap (λ (t : Bool). shown s t (second s)) (sym (first-is d) ∙ not-true (d .reaches .result) (c .if1 .taken)))
+
+mul-two : tie.Need-mul-two
+mul-two c = need (start (c .before) .pre .0 .near .near) (exE ⊗ dyE) tt
+
+mul-two-2 : tie.Need-mul-two-2
+mul-two-2 c = need (start (c .before) .pre .0 .near .near) (eyE ⊗ dxE) tt
+
+sub-two : tie.Need-sub-two
+sub-two c = need (start (c .before) .pre .0 .near .near) twoE tt
+
+turned-requires-3 : tie.Need-turned-requires-3
+turned-requires-3 c κs =
+    let s = start (c .before) in
+    record { bz = w-lit (held (s .pre .0 .near .near) twoE tt) tt; other = not-parallel s }
+
+reaches-requires-2 : tie.Need-reaches-requires-2
+reaches-requires-2 c κs = search needs
+
+returns-2 : tie.Need-returns-2
+returns-2 c =
+    let d = c .before in
+    let s = start (d .before .before .before) in
+    sym (ap₂ (shown s) (first-yes (d .before .before)) (sym (second-is d) ∙ not-true (d .reaches2 .result) (c .if2 .taken)))
+
+meeting-point-requires : tie.Need-meeting-point-requires
+meeting-point-requires c κs = search needs
+
+returns-3 : tie.Need-returns-3
+returns-3 c =
+    let d = c .before .before in
+    let s = start (d .before .before .before) in
+    let e =
+    c .meeting-point .ensures
+    ∙ (λ i. divided (meetingPoint
+    (piece-out (fits64 (w-pos 3) tt) (s .fits .px) (s .fits .py) (s .fits .qx) (s .fits .qy) i)
+    (piece-out (fits64 (w-pos 3) tt) (s .fits .rx) (s .fits .ry) (s .fits .sx) (s .fits .sy) i)))
+    in
+    (λ i. say (point (e i)))
+    ∙ sym (ap₂ (shown s) (first-yes (d .before .before)) (sym (second-is d) ∙ not-false (d .reaches2 .result) (c .before .if2 .left)))
+
+pub skewed-spec : {M : Type 1} → statement M
+skewed-spec =
+    tie.close
+    (tie.spec
+    sub-dx
+    sub-dy
+    sub-fx
+    sub-fy
+    sub-ex
+    sub-ey
+    mul-one
+    mul-one-2
+    sub-one
+    turned-requires
+    turned-requires-2
+    reaches-requires
+    returns
+    mul-two
+    mul-two-2
+    sub-two
+    turned-requires-3
+    reaches-requires-2
+    returns-2
+    meeting-point-requires
+    returns-3)

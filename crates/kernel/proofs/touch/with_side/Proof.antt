@@ -1,0 +1,173 @@
+use mathlib.Core.Path.{_≡_, sym, _∙_, ap, subst}
+use mathlib.Core.Bool.{cond}
+use mathlib.Core.List.{List, [], _∷_}
+use lib.IntN.{ℤ, pos}
+use Rattle.whole.specs.Laws.{eq-of-sub}
+use Rattle.whole.specs.Ring.{Expr, var, _⊖_}
+use Rattle.whole.specs.Flat as flat
+use Rattle.whole.specs.Flat.{All, _also_, mach, need, gives, held}
+use Rattle.whole.specs.Bound.{Within, fits64, w-pos}
+use Rattle.whole.specs.Tests.{out, out-is, out-ok, eq-taken, eq-left}
+use Rattle.sheet.specs.declared.Object.{Object}
+use Rattle.sheet.specs.Figure.{Vec, _⇀_, outX, outY, sideOf, first, second}
+use Rattle.sheet.specs.RefusalLaws.{Proper}
+use Rattle.sheet.specs.Ends.{farEnd, reverse}
+use Rattle.sheet.specs.Crossing.{none, point}
+use Rattle.kernel.specs.Bounds.{Ahead, Out}
+use Rattle.kernel.specs.Kinds.{accepted-pair}
+use Rattle.kernel.specs.Pieces.{at, object, onBy, sidesBy, out-within, with-segment, with-ray, with-side, with-line}
+use Rattle.kernel.proofs.Eight.{dxE, dyE, say}
+use borrow.Author.Needs.{needs}
+use Rattle.kernel.proofs.touch.with_side.Statement.{statement}
+use Rattle.kernel.proofs.touch.with_side.Tie as tie
+use Rattle.kernel.proofs.touch.with_side.Reads as reads
+use Rattle.kernel.proofs.touch.with_side.Lts as lts
+use Rattle.kernel.proofs.touch.out_x.Reads as out-x-reads
+use Rattle.kernel.proofs.touch.out_y.Reads as out-y-reads
+use Rattle.kernel.proofs.touch.sides.Reads as sides-reads
+use Rattle.kernel.proofs.touch.with_end.Reads as with-end-reads
+use Rattle.kernel.proofs.touch.with_line.Reads as with-line-reads
+
+abbrev o : tie.Start → Object
+o s = object (s .args .kind) (s .args .px) (s .args .py) (s .args .qx) (s .args .qy)
+
+abbrev start : tie.After-out-y → tie.Start
+start c = c .before .before .before
+
+-- the way out over side n, and over the other side
+ox-is : (c : tie.After-out-x) → out (c .out-x .result) ≡ outX (sideOf (c .before .before .args .n))
+ox-is c = out-ok (c .out-x .result) (c .out-x .ok) ∙ c .out-x .ensures ∙ ap (λ (n : ℤ). outX (sideOf n)) (out-is (c .before .before .fits .n))
+
+oy-is : (c : tie.After-out-y) → out (c .out-y .result) ≡ outY (sideOf (start c .args .n))
+oy-is c = out-ok (c .out-y .result) (c .out-y .ok) ∙ c .out-y .ensures ∙ ap (λ (n : ℤ). outY (sideOf n)) (out-is (start c .fits .n))
+
+ux-is : (c : tie.After-out-x2) → out (c .out-x2 .result) ≡ outX (sideOf (start (c .before .before) .args .px))
+ux-is c =
+    out-ok (c .out-x2 .result) (c .out-x2 .ok) ∙ c .out-x2 .ensures
+    ∙ ap (λ (n : ℤ). outX (sideOf n)) (out-is (start (c .before .before) .fits .px))
+
+uy-is : (c : tie.After-out-y2) → out (c .out-y2 .result) ≡ outY (sideOf (start (c .before .before .before) .args .px))
+uy-is c =
+    out-ok (c .out-y2 .result) (c .out-y2 .ok) ∙ c .out-y2 .ensures
+    ∙ ap (λ (n : ℤ). outY (sideOf n)) (out-is (start (c .before .before .before) .fits .px))
+
+both : {x y x′ y′ : ℤ} → x ≡ x′ → y ≡ y′ → Out x′ y′ → Out x y
+both e f h = record { box = subst (Within 1) (sym e) (h .box); boy = subst (Within 1) (sym f) (h .boy) }
+
+outward : (c : tie.After-out-y) → Out (out (c .before .out-x .result)) (out (c .out-y .result))
+outward c = both (ox-is (c .before)) (oy-is c) (out-within (sideOf (start c .args .n)))
+
+-- px, py, qx, qy
+abbrev ρ : tie.Start → List ℤ
+ρ s = s .args .px ∷ s .args .py ∷ s .args .qx ∷ s .args .qy ∷ []
+
+bounds : (s : tie.Start) → Proper (first (o s)) (second (o s)) → All (2000 ∷ 2000 ∷ 2000 ∷ 2000 ∷ []) (ρ s)
+bounds s p = p .small-p .in-x also p .small-p .in-y also p .small-q .in-x also p .small-q .in-y also flat.none
+
+proper : (c : tie.Else2) → Proper (first (o (start (c .before)))) (second (o (start (c .before))))
+proper c = let s = start (c .before) in accepted-pair (o s) (s .pre) (eq-left (c .if2 .left))
+
+ahead : (c : tie.Else2) → let s = start (c .before) in Ahead (out (s .args .px)) (out (s .args .py)) (mach (ρ s) dxE) (mach (ρ s) dyE)
+ahead c =
+    let p = proper c in
+    let b = bounds (start (c .before)) p in
+    record {
+      bpx = held b (var 0) tt;
+      bpy = held b (var 1) tt;
+      bdx = held b dxE tt;
+      bdy = held b dyE tt;
+      moves =
+          λ e f. p .differ (sym (eq-of-sub _ _ (sym (gives b dxE tt) ∙ e))) (sym (eq-of-sub _ _ (sym (gives b dyE tt) ∙ f)));
+    }
+
+-- the two far ends as the callee names them
+p-out : (s : tie.Start) → at (out (s .args .px)) (out (s .args .py)) ≡ first (o s)
+p-out s = λ i. at (out-is (s .fits .px) i) (out-is (s .fits .py) i)
+
+d-out : (c : tie.Else2) → let s = start (c .before) in at (mach (ρ s) dxE) (mach (ρ s) dyE) ≡ first (o s) ⇀ second (o s)
+d-out c = let b = bounds (start (c .before)) (proper c) in λ i. at (gives b dxE tt i) (gives b dyE tt i)
+
+far : (c : tie.Else2) → let s = start (c .before) in farEnd (at (out (s .args .px)) (out (s .args .py))) (at (mach (ρ s) dxE) (mach (ρ s) dyE)) ≡ farEnd (first (o s)) (first (o s) ⇀ second (o s))
+far c = λ i. farEnd (p-out (start (c .before)) i) (d-out c i)
+
+near : (c : tie.Else2) → let s = start (c .before) in farEnd (at (out (s .args .px)) (out (s .args .py))) (reverse (at (mach (ρ s) dxE) (mach (ρ s) dyE))) ≡ farEnd (first (o s)) (reverse (first (o s) ⇀ second (o s)))
+near c = λ i. farEnd (p-out (start (c .before)) i) (reverse (d-out c i))
+
+returns : tie.Need-returns
+returns c =
+    let s = c .before in
+    sym (ap say (with-segment (sideOf (s .args .n)) (o s) (eq-taken (s .fits .kind) (fits64 (w-pos 1) tt) (c .if1 .taken))))
+
+out-x-requires : tie.Need-out-x-requires
+out-x-requires c κs = search needs
+
+out-y-requires : tie.Need-out-y-requires
+out-y-requires c κs = search needs
+
+out-x-requires-2 : tie.Need-out-x-requires-2
+out-x-requires-2 c κs = search needs
+
+out-y-requires-2 : tie.Need-out-y-requires-2
+out-y-requires-2 c κs = search needs
+
+sides-requires : tie.Need-sides-requires
+sides-requires c κs =
+    let t = c .before .before in
+    (outward (t .before), both (ux-is (c .before)) (uy-is c) (out-within (sideOf (start (t .before) .args .px))))
+
+returns-2 : tie.Need-returns-2
+returns-2 c =
+    let d = c .before in
+    let t = d .before .before in
+    let s = start (t .before) in
+    c .sides .ensures ∙ (λ i. say (sidesBy (ox-is (t .before .before) i) (oy-is (t .before) i) (ux-is (d .before) i) (uy-is d i)))
+    ∙ sym (ap say (with-side (sideOf (s .args .n)) (o s) (eq-taken (s .fits .kind) (fits64 (w-pos 4) tt) (t .if2 .taken))))
+
+sub-dx : tie.Need-sub-dx
+sub-dx c = let s = start (c .before) in need (bounds s (proper c)) dxE tt
+
+sub-dy : tie.Need-sub-dy
+sub-dy c = let s = start (c .before) in need (bounds s (proper c)) dyE tt
+
+with-end-requires : tie.Need-with-end-requires
+with-end-requires c κs = (outward (c .before .before), ahead (c .before))
+
+returns-3 : tie.Need-returns-3
+returns-3 c =
+    let t = c .before .before in
+    let s = start (t .before) in
+    c .with-end .ensures
+    ∙ (λ i. say (cond (onBy (ox-is (t .before .before) i) (oy-is (t .before) i) (far t i)) (point (far t i)) none))
+    ∙ sym (ap say (with-ray (sideOf (s .args .n)) (o s) (eq-taken (s .fits .kind) (fits64 (w-pos 2) tt) (c .before .if3 .taken))))
+
+with-line-requires : tie.Need-with-line-requires
+with-line-requires c κs = (outward (c .before .before), ahead (c .before))
+
+returns-4 : tie.Need-returns-4
+returns-4 c =
+    let t = c .before .before in
+    let s = start (t .before) in
+    let x = ox-is (t .before .before) in
+    let y = oy-is (t .before) in
+    c .with-line .ensures
+    ∙ (λ i. say (cond (onBy (x i) (y i) (far t i)) (point (far t i)) (cond (onBy (x i) (y i) (near t i)) (point (near t i)) none)))
+    ∙ sym (ap say (with-line (sideOf (s .args .n)) (o s) (s .pre)
+    (eq-left (t .before .before .before .if1 .left)) (eq-left (c .before .if3 .left)) (eq-left (t .if2 .left))))
+
+pub with-side-spec : {M : Type 1} → statement M
+with-side-spec =
+    tie.close
+    (tie.spec
+    returns
+    out-x-requires
+    out-y-requires
+    out-x-requires-2
+    out-y-requires-2
+    sides-requires
+    returns-2
+    sub-dx
+    sub-dy
+    with-end-requires
+    returns-3
+    with-line-requires
+    returns-4)

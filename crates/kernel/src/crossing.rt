@@ -1,0 +1,63 @@
+// The crossing of two objects: none, point or many.
+use crate::pieces::cross_pieces;
+use crate::touch::with_side;
+use sheet::Crossing;
+use sheet::Object;
+ghost use mathlib.Core.Path.{_≡_};
+ghost use mathlib.Core.List.{_∷_};
+ghost use lib.IntN.{pos};
+ghost use Rattle.sheet.specs.Refusal.{Accepted};
+ghost use Rattle.sheet.specs.Crossing.{crossingOf, crossingRefusal};
+ghost use Rattle.sheet.specs.Answers.{answer, meetingNumbers, crossingSays};
+ghost use Rattle.kernel.specs.Pieces.{object};
+
+fn meet(
+    ka: i64,
+    px: i64,
+    py: i64,
+    qx: i64,
+    qy: i64,
+    kb: i64,
+    rx: i64,
+    ry: i64,
+    sx: i64,
+    sy: i64,
+) -> Crossing
+    requires { ⌜ Accepted (object ka px py qx qy) ⌝ }
+    requires { ⌜ Accepted (object kb rx ry sx sy) ⌝ }
+    ensures { λ r. ⌜ crossingSays r ≡ pos 0 ∷ meetingNumbers (crossingOf (object ka px py qx qy) (object kb rx ry sx sy)) ⌝ }
+{
+    if ka == Object::SIDE {
+        return with_side(px, kb, rx, ry, sx, sy);
+    }
+    if kb == Object::SIDE {
+        return with_side(rx, ka, px, py, qx, qy);
+    }
+    cross_pieces(ka, px, py, qx, qy, kb, rx, ry, sx, sy)
+}
+
+// What two objects share. Refusal 12 needs no test: the point of two accepted objects is always within the limits.
+pub fn cross(a: Object, b: Object) -> Crossing
+    ensures { λ r. ⌜ crossingSays r ≡ answer (crossingRefusal a b) (meetingNumbers (crossingOf a b)) ⌝ }
+{
+    let first = sheet::object_refusal(a);
+    if first != 0 {
+        return Crossing::Refused(first);
+    }
+    let second = sheet::object_refusal(b);
+    if second != 0 {
+        return Crossing::Refused(second);
+    }
+    meet(
+        a.kind,
+        a.px,
+        a.py,
+        a.qx,
+        a.qy,
+        b.kind,
+        b.px,
+        b.py,
+        b.qx,
+        b.qy,
+    )
+}
