@@ -1,9 +1,7 @@
 -- What follows for crossing itself, by looking at one R. To cite:
---   crossing-is-point   the point that crossing gives is a point of the paper, within its limits
 --   crossing-swap       the two objects changed over
 --   crossing-self       an object with itself
 use mathlib.Core.Path.{_≡_, sym, _∙_, ap}
-use mathlib.Core.Bool.{true}
 use lib.IntN.{ℤ, pos, _*ℤ_}
 use lib.Signed.{_<ℤ_, ltZ-yes, leZ-yes}
 use Rattle.whole.specs.Laws.{mul-one}
@@ -12,7 +10,6 @@ use Rattle.sheet.specs.declared.Point.{Point}
 use Rattle.sheet.specs.Figure.{Vec, _⇀_, Figure}
 use Rattle.sheet.specs.Refusal.{Accepted}
 use Rattle.sheet.specs.RefusalLaws.{Small, Proper}
-use Rattle.sheet.specs.Points.{isPoint}
 use Rattle.sheet.specs.PointsLaws.{APoint, point-is}
 use Rattle.sheet.specs.Crossing.{Meeting, point, many, crossingOf}
 use Rattle.cut.specs.Bounds.{smallBound}
@@ -26,9 +23,6 @@ use Rattle.cut.specs.Says.{Both, Says, says-many}
 use Rattle.cut.specs.SidesMeet.{same-says}
 use Rattle.cut.specs.SameNumbers.{same-numbers-at}
 use Rattle.cut.specs.CrossingAt.{Tells, tells-none, tells-point, tells-many, tells, crossing-tells, point-said, none-when, many-when, point-when}
-
-pub crossing-is-point : {a b : Object} → Accepted a → Accepted b → (e : Point) → crossingOf a b ≡ point e → isPoint e ≡ true
-crossing-is-point s t e q = point-said (crossing-tells {R = smallBound} (leZ-yes tt) s t) e q .is-point
 
 -- ---- changed over
 

@@ -8,11 +8,15 @@ use Rattle.sheet.specs.declared.Ends.{Ends}
 use Rattle.sheet.specs.declared.Ends.the-variants as ends
 use Rattle.sheet.specs.declared.Signed.{Signed}
 use Rattle.sheet.specs.declared.Signed.the-variants as signed
+use Rattle.sheet.specs.declared.Crossing.{Crossing}
+use Rattle.sheet.specs.declared.Crossing.the-variants as crossing
 use Rattle.sheet.specs.Figure.{figure}
 use Rattle.sheet.specs.Refusal.{objectRefusal}
 use Rattle.sheet.specs.Signs.{orderRefusal, turnRefusal, sideSignRefusal}
 use Rattle.cut.specs.Place.{Place, put, spot}
-use Rattle.cut.specs.Cut.{Upto, Lies}
+use Rattle.sheet.specs.Crossing.{crossingRefusal}
+use Rattle.cut.specs.Cut.{Upto, Lies, NothingShared, MoreShared}
+use Rattle.cut.specs.Claims.{SharedPoint}
 use Rattle.cut.specs.Ordinary.{Ordered, determinant, signOf, way, tail, tip}
 
 -- "the two ends, put at R, are the cut piece's ends in its direction"
@@ -42,3 +46,11 @@ pub data SideSaid (R : ℤ) (o : Object) (t : Point) : Signed → Type 0 where
   side-refused : {n : ℤ} → n ≡ sideSignRefusal o t → (n ≡ pos 0 → ⊥) → SideSaid R o t (signed.Refused n)
   side-given : {s : ℤ} (l : pos 0 <ℤ t .w)
       → s ≡ signOf (determinant (tail R (figure o)) (tip R (figure o)) (put R t l)) → SideSaid R o t (signed.Sign s)
+
+-- "crossing says point exactly when two cut pieces share one point, and gives it, many exactly when they share more, none exactly when
+-- they share nothing": what it says holds, and since what two pieces share is one of the three, it says so exactly then
+pub data CrossSaid (R : ℤ) (a b : Object) : Crossing → Type 0 where
+  cross-refused : {n : ℤ} → n ≡ crossingRefusal a b → (n ≡ pos 0 → ⊥) → CrossSaid R a b (crossing.Refused n)
+  cross-none : NothingShared R a b → CrossSaid R a b crossing.Nothing
+  cross-point : {e : Point} → SharedPoint R a b e → CrossSaid R a b (crossing.Once e)
+  cross-many : MoreShared R a b → CrossSaid R a b crossing.Many

@@ -1,6 +1,6 @@
 -- What holds of numbers that are not refused. To cite:
 --   point-taken                              a refusal of 0 says that it is a point
---   order-taken, turn-taken, side-taken      the same of two points, of three narrow points, of an object with a point
+--   order-taken, turn-taken, side-taken, cross-taken   the same of two points, of three narrow points, of an object with a point, of two objects
 -- Assumes nothing.
 use mathlib.Core.Path.{_≡_, refl, ap}
 use mathlib.Core.Bool.{Bool, true, false, cond, _&&_}
@@ -13,6 +13,7 @@ use Rattle.sheet.specs.Refusal.{objectRefusal, Accepted}
 use Rattle.sheet.specs.Points.{isPoint, narrow, pointRefusal}
 use Rattle.sheet.specs.Flags.{both}
 use Rattle.sheet.specs.Signs.{orderRefusal, wideRefusal, turnRefusal, sideSignRefusal}
+use Rattle.sheet.specs.Crossing.{crossingRefusal}
 use Rattle.sheet.specs.AnswersLaws.{or-zero}
 
 -- 0 where a test holds, and n elsewhere
@@ -48,3 +49,10 @@ unfolding sideSignRefusal
 side-taken o s h =
     let f = or-zero (objectRefusal o) (pointRefusal s) h in
     (record { accepted = f .0 }, point-taken s (f .1))
+
+pub cross-taken : (a b : Object) → crossingRefusal a b ≡ pos 0 → Accepted a × Accepted b
+unfolding crossingRefusal
+cross-taken a b h =
+    let f = or-zero (objectRefusal a) _ h in
+    let g = or-zero (objectRefusal b) _ (f .1) in
+    (record { accepted = f .0 }, record { accepted = g .0 })
