@@ -1,21 +1,20 @@
 -- The code of two pieces: its eight numbers px, py, qx, qy, rx, ry, sx, sy as locals 0 to 7, what it computes of them, and how they are
 -- handed on. To cite:
 --   dxE, dyE, fxE, fyE, exE, eyE, acrossE   the differences and the cross product, as the code writes them
---   ρ8                      the list of the locals
---   near-out, apart-out     what an inner function asks, of the numbers as they come out of locals
+--   near-out                what an inner function asks, of the numbers as they come out of locals
 --   piece-out               the piece of numbers out of locals
 --   say                     what an accepted crossing says
-use mathlib.Core.Path.{_≡_, sym, _∙_}
-use mathlib.Core.List.{List, [], _∷_}
-use lib.IntN.{ℤ, pos, _-ℤ_, _*ℤ_}
+use mathlib.Core.Path.{_≡_}
+use mathlib.Core.List.{List, _∷_}
+use lib.IntN.{ℤ, pos}
 use mir.Syntax.{w64}
 use mir.Val.{SFits}
 use Rattle.whole.specs.Ring.{Expr, var, _⊖_, _⊗_}
 use Rattle.whole.specs.Flat.{none, _also_, held}
 use Rattle.whole.specs.Tests.{out, out-is}
-use Rattle.sheet.specs.Crossing.{Meeting, Piece}
+use Rattle.sheet.specs.Crossing.{Meeting}
 use Rattle.sheet.specs.Answers.{meetingNumbers}
-use Rattle.kernel.specs.Bounds.{Near, Apart}
+use Rattle.kernel.specs.Bounds.{Near}
 use Rattle.kernel.specs.Pieces.{piece}
 
 abbrev pub dxE : Expr

@@ -5,9 +5,9 @@
 --   pieces-skew, pieces-apart, pieces-together   the three cases of two pieces
 --   with-segment, with-ray, with-line, with-side   a side with an object, by its kind
 --   reachesBy, reaches-is   whether a piece reaches a place of its line, by its kind
---   betweenBy, overlapBy    on one line, by inner products; FAR stands for no limit
+--   betweenBy, overlapBy    on one line, by inner products; far stands for no limit
 --   together-alike, together-opposed   that this is `together`
---   onBy, sidesBy, out-within, on-by-divided       with sides, by the way out of the square; before and after the division
+--   onBy, endBy, sidesBy, out-within, on-by-divided   with sides, by the way out of the square; before and after the division
 -- Assumes nothing.
 use mathlib.Core.Path.{_≡_, refl, sym, _∙_, ap, subst}
 use mathlib.Core.Bool.{Bool, true, false, cond, not, _&&_, _||_}
@@ -245,7 +245,8 @@ module _ (ka px py qx qy kb rx ry sx sy : ℤ) (h : Near px py qx qy rx ry sx sy
       → overlapBy starts stops p (cond (eqZ kb (pos 3)) (negℤ far) (dot d r)) (cond (eqZ kb (pos 1)) (dot d s) far) r
       ≡ together (pieceOf ka p q) (pieceOf kb r s)
   together-alike e =
-      overlap-by (lo-if (eqZ ka (pos 3)) p in-p) (lo-if (eqZ kb (pos 3)) r in-r) (hi-unless (eqZ ka (pos 1)) q in-q) (hi-unless (eqZ kb (pos 1)) s in-s)
+      overlap-by (lo-if (eqZ ka (pos 3)) p in-p) (lo-if (eqZ kb (pos 3)) r in-r)
+      (hi-unless (eqZ ka (pos 1)) q in-q) (hi-unless (eqZ kb (pos 1)) s in-s)
       ∙ sym (ap (λ (t : Bool). between d
       (later d (pieceOf ka p q .start) (cond t (pieceOf kb r s .start) (pieceOf kb r s .stop)))
       (sooner d (pieceOf ka p q .stop) (cond t (pieceOf kb r s .stop) (pieceOf kb r s .start)))) e)
@@ -254,7 +255,8 @@ module _ (ka px py qx qy kb rx ry sx sy : ℤ) (h : Near px py qx qy rx ry sx sy
       → overlapBy starts stops p (cond (eqZ kb (pos 1)) (dot d s) (negℤ far)) (cond (eqZ kb (pos 3)) far (dot d r)) s
       ≡ together (pieceOf ka p q) (pieceOf kb r s)
   together-opposed e =
-      overlap-by (lo-if (eqZ ka (pos 3)) p in-p) (lo-unless (eqZ kb (pos 1)) s in-s) (hi-unless (eqZ ka (pos 1)) q in-q) (hi-if (eqZ kb (pos 3)) r in-r)
+      overlap-by (lo-if (eqZ ka (pos 3)) p in-p) (lo-unless (eqZ kb (pos 1)) s in-s)
+      (hi-unless (eqZ ka (pos 1)) q in-q) (hi-if (eqZ kb (pos 3)) r in-r)
       ∙ sym (ap (λ (t : Bool). between d
       (later d (pieceOf ka p q .start) (cond t (pieceOf kb r s .start) (pieceOf kb r s .stop)))
       (sooner d (pieceOf ka p q .stop) (cond t (pieceOf kb r s .stop) (pieceOf kb r s .start)))) e)
@@ -263,6 +265,10 @@ module _ (ka px py qx qy kb rx ry sx sy : ℤ) (h : Near px py qx qy rx ry sx sy
 
 abbrev pub onBy : ℤ → ℤ → Point → Bool
 onBy ox oy e = eqZ (ox *ℤ e .mx +ℤ oy *ℤ e .my) (e .w) && eqZ (ox *ℤ e .nx +ℤ oy *ℤ e .ny) (pos 0)
+
+-- the end e if it is on the side
+abbrev pub endBy : ℤ → ℤ → Point → Meeting → Meeting
+endBy ox oy e otherwise = cond (onBy ox oy e) (point e) otherwise
 
 abbrev pub sidesBy : ℤ → ℤ → ℤ → ℤ → Meeting
 sidesBy ox oy ux uy =

@@ -6,16 +6,15 @@ use sheet::Crossing;
 use sheet::Object;
 use sheet::Point;
 ghost use mathlib.Core.Path.{_≡_};
-ghost use mathlib.Core.Bool.{cond};
 ghost use mathlib.Core.List.{_∷_};
 ghost use lib.IntN.{pos};
 ghost use Rattle.sheet.specs.Figure.{outX, outY, sideOf, figure};
 ghost use Rattle.sheet.specs.Refusal.{Accepted};
 ghost use Rattle.sheet.specs.Ends.{flat, steep, farEnd, reverse};
-ghost use Rattle.sheet.specs.Crossing.{none, point, withSide};
+ghost use Rattle.sheet.specs.Crossing.{none, withSide};
 ghost use Rattle.sheet.specs.Answers.{meetingNumbers, crossingSays};
 ghost use Rattle.kernel.specs.Bounds.{Direction, Ahead, Out};
-ghost use Rattle.kernel.specs.Pieces.{at, object, onBy, sidesBy};
+ghost use Rattle.kernel.specs.Pieces.{at, object, onBy, endBy, sidesBy};
 
 fn out_x(n: i64) -> i64
     ensures { λ r. ⌜ r ≡ outX (sideOf n) ⌝ }
@@ -114,7 +113,7 @@ fn is_on(ox: i64, oy: i64, px: i64, py: i64, dx: i64, dy: i64) -> bool
 fn with_end(ox: i64, oy: i64, px: i64, py: i64, dx: i64, dy: i64) -> Crossing
     requires { ⌜ Out ox oy ⌝ }
     requires { ⌜ Ahead px py dx dy ⌝ }
-    ensures { λ r. ⌜ crossingSays r ≡ pos 0 ∷ meetingNumbers (cond (onBy ox oy (farEnd (at px py) (at dx dy))) (point (farEnd (at px py) (at dx dy))) none) ⌝ }
+    ensures { λ r. ⌜ crossingSays r ≡ pos 0 ∷ meetingNumbers (endBy ox oy (farEnd (at px py) (at dx dy)) none) ⌝ }
 {
     if is_on(ox, oy, px, py, dx, dy) {
         let e = far_end(px, py, dx, dy);
@@ -126,7 +125,7 @@ fn with_end(ox: i64, oy: i64, px: i64, py: i64, dx: i64, dy: i64) -> Crossing
 fn with_line(ox: i64, oy: i64, px: i64, py: i64, dx: i64, dy: i64) -> Crossing
     requires { ⌜ Out ox oy ⌝ }
     requires { ⌜ Ahead px py dx dy ⌝ }
-    ensures { λ r. ⌜ crossingSays r ≡ pos 0 ∷ meetingNumbers (cond (onBy ox oy (farEnd (at px py) (at dx dy))) (point (farEnd (at px py) (at dx dy))) (cond (onBy ox oy (farEnd (at px py) (reverse (at dx dy)))) (point (farEnd (at px py) (reverse (at dx dy)))) none)) ⌝ }
+    ensures { λ r. ⌜ crossingSays r ≡ pos 0 ∷ meetingNumbers (endBy ox oy (farEnd (at px py) (at dx dy)) (endBy ox oy (farEnd (at px py) (reverse (at dx dy))) none)) ⌝ }
 {
     if is_on(ox, oy, px, py, dx, dy) {
         let e = far_end(px, py, dx, dy);

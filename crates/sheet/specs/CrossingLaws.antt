@@ -209,9 +209,11 @@ sides-good top top = a-many
 
 end-on-good : (n : Side) {G : Point → Type 0} {e : Point} {m : Meeting} → APoint e → G e → Good (OnFigure (side n)) G m
     → Good (OnFigure (side n)) G (endOn n e m)
-end-on-good n {G} {e} h g o = good-cond (onSide n e) (λ t. a-point h (on-it (both (eqZ (outX n *ℤ e .mx +ℤ outY n *ℤ e .my) (e .w)) _ .0 t)) g) (λ t. o)
+end-on-good n {G} {e} h g o =
+    good-cond (onSide n e) (λ t. a-point h (on-it (both (eqZ (outX n *ℤ e .mx +ℤ outY n *ℤ e .my) (e .w)) _ .0 t)) g) (λ t. o)
   where
-    on-it : (eqZ (outX n *ℤ e .mx +ℤ outY n *ℤ e .my) (e .w) ≡ true) × (eqZ (outX n *ℤ e .nx +ℤ outY n *ℤ e .ny) (pos 0) ≡ true) → OnFigure (side n) e
+    on-it : (eqZ (outX n *ℤ e .mx +ℤ outY n *ℤ e .my) (e .w) ≡ true) × (eqZ (outX n *ℤ e .nx +ℤ outY n *ℤ e .ny) (pos 0) ≡ true)
+        → OnFigure (side n) e
     on-it t = on-side-sign n e (eqZ-true (t .0)) (eqZ-true (t .1))
 
 -- ---- accepted objects, by their figures
@@ -235,11 +237,13 @@ with-side-good : (n : Side) {g : Figure} → Sound g → Good (OnFigure (side n)
 unfolding withSide
 with-side-good n (is-segment h) = a-none
 with-side-good n (is-ray {p} {q} h) =
-    end-on-good n (far-end-fine p (p ⇀ q) (proper-way h) .point) (on-line-turn p q (farEnd p (p ⇀ q)) (far-on-line p (p ⇀ q) (proper-way h))) a-none
+    end-on-good n (far-end-fine p (p ⇀ q) (proper-way h) .point)
+    (on-line-turn p q (farEnd p (p ⇀ q)) (far-on-line p (p ⇀ q) (proper-way h))) a-none
 with-side-good n (is-line {p} {q} h) =
     let back = reverse-way p (p ⇀ q) (proper-way h) in
     end-on-good n (far-end-fine p (p ⇀ q) (proper-way h) .point) (on-line-turn p q (farEnd p (p ⇀ q)) (far-on-line p (p ⇀ q) (proper-way h)))
-    (end-on-good n (far-end-fine p (reverse (p ⇀ q)) back .point) (on-line-turn p q (farEnd p (reverse (p ⇀ q))) (on-line-back (far-on-line p (reverse (p ⇀ q)) back))) a-none)
+    (end-on-good n (far-end-fine p (reverse (p ⇀ q)) back .point)
+    (on-line-turn p q (farEnd p (reverse (p ⇀ q))) (on-line-back (far-on-line p (reverse (p ⇀ q)) back))) a-none)
 with-side-good n (is-side {n = m}) = sides-good n m
 
 module _ {p q : Vec} (h : Proper p q) where

@@ -136,10 +136,14 @@ far-on-line p d h = on-line-divided (far-frame (d .x) (d .y) k h .slim .in-w .ab
     k = moment p d
 
     on-flat : {e : Point} → e ≡ flat (d .x) (d .y) (moment p d) → OnLine p d e
-    on-flat e = subst (OnLine p d) (sym e) (record { level = flat-level (d .x) (d .y) (moment p d); even = flat-even (d .x) (d .y) (moment p d) })
+    on-flat e =
+        subst (OnLine p d) (sym e)
+        (record { level = flat-level (d .x) (d .y) (moment p d); even = flat-even (d .x) (d .y) (moment p d) })
 
     on-steep : {e : Point} → e ≡ steep (d .x) (d .y) (moment p d) → OnLine p d e
-    on-steep e = subst (OnLine p d) (sym e) (record { level = steep-level (d .x) (d .y) (moment p d); even = steep-even (d .x) (d .y) (moment p d) })
+    on-steep e =
+        subst (OnLine p d) (sym e)
+        (record { level = steep-level (d .x) (d .y) (moment p d); even = steep-even (d .x) (d .y) (moment p d) })
 
     go : Far (d .x) (d .y) (moment p d) → OnLine p d (farRaw (d .x) (d .y) (moment p d))
     go (flatter l e) = on-flat e

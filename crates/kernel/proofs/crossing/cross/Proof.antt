@@ -1,5 +1,4 @@
-use mathlib.Core.Path.{_≡_, sym, _∙_, subst}
-use lib.IntN.{pos}
+use mathlib.Core.Path.{sym, _∙_, subst}
 use Rattle.whole.specs.Bound.{fits64, w-pos}
 use Rattle.whole.specs.Tests.{fits-ok, eq-taken}
 use Rattle.sheet.specs.Refusal.{Accepted}
@@ -56,8 +55,10 @@ meet-requires c κs =
     let s = e .before .before .before .before in
     let t = c .before .before .before .before .before .before .before .before .before .struct-told .given in
     let u = c .before .before .before .before .struct-told6 .given in (
-      subst Accepted (sym (handed.object (s .args .a) (t .0 .1) (t .1 .0 .1) (t .1 .1 .0 .1) (t .1 .1 .1 .0 .1) (t .1 .1 .1 .1 .0 .1))) (first-taken (e .before .before)),
-      subst Accepted (sym (handed.object (s .args .b) (u .0 .1) (u .1 .0 .1) (u .1 .1 .0 .1) (u .1 .1 .1 .0 .1) (u .1 .1 .1 .1 .0 .1))) (second-taken e),
+      subst Accepted (sym (handed.object (s .args .a) (t .0 .1) (t .1 .0 .1) (t .1 .1 .0 .1) (t .1 .1 .1 .0 .1) (t .1 .1 .1 .1 .0 .1)))
+          (first-taken (e .before .before)),
+      subst Accepted (sym (handed.object (s .args .b) (u .0 .1) (u .1 .0 .1) (u .1 .1 .0 .1) (u .1 .1 .1 .0 .1) (u .1 .1 .1 .1 .0 .1)))
+          (second-taken e),
     )
 
 returns-3 : tie.Need-returns-3

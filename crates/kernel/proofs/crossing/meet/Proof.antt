@@ -45,7 +45,8 @@ returns-2 : tie.Need-returns-2
 returns-2 c =
     let s = c .before .before .before in
     c .with-side2 .ensures ∙ (λ i. say (withSide (sideOf (out-is (s .fits .rx) i)) (figure (a-out s i))))
-    ∙ sym (ap say (side-second (a s) (b s) (s .pre .0) (eq-left (c .before .before .if1 .left)) (eq-taken (s .fits .kb) (fits64 (w-pos 4) tt) (c .before .if2 .taken))))
+    ∙ sym (ap say (side-second (a s) (b s) (s .pre .0) (eq-left (c .before .before .if1 .left))
+    (eq-taken (s .fits .kb) (fits64 (w-pos 4) tt) (c .before .if2 .taken))))
 
 cross-pieces-requires : tie.Need-cross-pieces-requires
 cross-pieces-requires c κs =

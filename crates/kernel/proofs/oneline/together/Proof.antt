@@ -1,12 +1,12 @@
 use mathlib.Core.Path.{_≡_, _∙_, ap}
 use mathlib.Core.Bool.{cond}
 use Prim.Native.Nat.{ℕ}
-use lib.IntN.{ℤ, pos, negℤ}
-use Rattle.whole.specs.Ring.{Expr, var, lit, _⊕_, _⊖_, _⊗_, ev}
+use lib.IntN.{pos, negℤ}
+use Rattle.whole.specs.Ring.{Expr, var, lit, _⊕_, _⊗_}
 use Rattle.whole.specs.Flat.{need, gives, lt-gives}
 use Rattle.whole.specs.Tests.{eqZ, out, out-is, out-ok, lit-flag}
 use Rattle.sheet.specs.Crossing.{dot}
-use Rattle.sheet.specs.Figure.{_⇀_}
+use Rattle.sheet.specs.Figure.{Vec, _⇀_}
 use Rattle.kernel.specs.Pieces.{at, far, overlapBy, together-alike, together-opposed}
 use Rattle.kernel.proofs.Eight.{dxE, dyE, fxE, fyE, say}
 use borrow.Author.Needs.{needs}
@@ -24,10 +24,16 @@ atE i j = dxE ⊗ var i ⊕ dyE ⊗ var j
 abbrev alikeE : Expr
 alikeE = dxE ⊗ fxE ⊕ dyE ⊗ fyE
 
+abbrev p : tie.Start → Vec
+p s = at (s .args .px) (s .args .py)
+
+abbrev q : tie.Start → Vec
+q s = at (s .args .qx) (s .args .qy)
+
 -- where the first one starts and stops
 lo : (c : tie.After-pick) →
     let s = c .before in
-    out (c .pick .result) ≡ cond (eqZ (s .args .ka) (pos 3)) (negℤ far) (dot (at (s .args .px) (s .args .py) ⇀ at (s .args .qx) (s .args .qy)) (at (s .args .px) (s .args .py)))
+    out (c .pick .result) ≡ cond (eqZ (s .args .ka) (pos 3)) (negℤ far) (dot (p s ⇀ q s) (p s))
 lo c =
     let s = c .before in
     out-ok (c .pick .result) (c .pick .ok) ∙ c .pick .ensures
@@ -35,7 +41,7 @@ lo c =
 
 hi : (c : tie.After-pick2) →
     let s = c .before .before in
-    out (c .pick2 .result) ≡ cond (eqZ (s .args .ka) (pos 1)) (dot (at (s .args .px) (s .args .py) ⇀ at (s .args .qx) (s .args .qy)) (at (s .args .qx) (s .args .qy))) far
+    out (c .pick2 .result) ≡ cond (eqZ (s .args .ka) (pos 1)) (dot (p s ⇀ q s) (q s)) far
 hi c =
     let s = c .before .before in
     out-ok (c .pick2 .result) (c .pick2 .ok) ∙ c .pick2 .ensures
@@ -133,8 +139,12 @@ returns c =
     ∙ (λ i. cond (lit-flag 1 tt (s .fits .kb) i) (gives b (atE 6 7) tt i) far)
     in
     c .overlap .ensures
-    ∙ (λ i. say (overlapBy (lo (f .before .before) i) (hi (f .before) i) (at (out-is (s .fits .px) i) (out-is (s .fits .py) i)) (low i) (high i) (at (out-is (s .fits .rx) i) (out-is (s .fits .ry) i))))
-    ∙ ap say (together-alike (s .args .ka) (s .args .px) (s .args .py) (s .args .qx) (s .args .qy) (s .args .kb) (s .args .rx) (s .args .ry) (s .args .sx) (s .args .sy) (s .pre)
+    ∙ (λ i. say (overlapBy
+    (lo (f .before .before) i) (hi (f .before) i) (at (out-is (s .fits .px) i) (out-is (s .fits .py) i))
+    (low i) (high i) (at (out-is (s .fits .rx) i) (out-is (s .fits .ry) i))))
+    ∙ ap say (together-alike
+    (s .args .ka) (s .args .px) (s .args .py) (s .args .qx) (s .args .qy)
+    (s .args .kb) (s .args .rx) (s .args .ry) (s .args .sx) (s .args .sy) (s .pre)
     (lt-gives b (lit 0) alikeE tt tt (f .if1 .taken)))
 
 sub-pick-3 : tie.Need-sub-pick-3
@@ -163,8 +173,12 @@ returns-2 c =
     ∙ (λ i. cond (lit-flag 3 tt (s .fits .kb) i) far (gives b (atE 4 5) tt i))
     in
     c .overlap2 .ensures
-    ∙ (λ i. say (overlapBy (lo (f .before .before) i) (hi (f .before) i) (at (out-is (s .fits .px) i) (out-is (s .fits .py) i)) (low i) (high i) (at (out-is (s .fits .sx) i) (out-is (s .fits .sy) i))))
-    ∙ ap say (together-opposed (s .args .ka) (s .args .px) (s .args .py) (s .args .qx) (s .args .qy) (s .args .kb) (s .args .rx) (s .args .ry) (s .args .sx) (s .args .sy) (s .pre)
+    ∙ (λ i. say (overlapBy
+    (lo (f .before .before) i) (hi (f .before) i) (at (out-is (s .fits .px) i) (out-is (s .fits .py) i))
+    (low i) (high i) (at (out-is (s .fits .sx) i) (out-is (s .fits .sy) i))))
+    ∙ ap say (together-opposed
+    (s .args .ka) (s .args .px) (s .args .py) (s .args .qx) (s .args .qy)
+    (s .args .kb) (s .args .rx) (s .args .ry) (s .args .sx) (s .args .sy) (s .pre)
     (lt-gives b (lit 0) alikeE tt tt (f .if1 .left)))
 
 pub together-spec : {M : Type 1} → statement M

@@ -1,10 +1,9 @@
 use mathlib.Core.Path.{_≡_, sym, _∙_, ap, ap₂}
-use Rattle.whole.specs.Ring.{Expr, var, lit, _⊖_, _⊗_}
+use Rattle.whole.specs.Ring.{Expr, lit, _⊖_, _⊗_}
 use Rattle.whole.specs.Flat.{need, gives, eq-gives, ne-gives}
-use Rattle.whole.specs.Tests.{out, out-is}
-use Rattle.sheet.specs.Figure.{Vec, _⇀_}
+use Rattle.whole.specs.Tests.{out}
 use Rattle.sheet.specs.Crossing.{Piece, cross, skew, together}
-use Rattle.kernel.specs.Pieces.{at, piece, pieces-skew, pieces-apart, pieces-together}
+use Rattle.kernel.specs.Pieces.{piece, pieces-skew, pieces-apart, pieces-together}
 use Rattle.kernel.proofs.Eight.{dxE, dyE, fxE, fyE, exE, eyE, acrossE, say, near-out, piece-out}
 use borrow.Author.Needs.{needs}
 use Rattle.kernel.proofs.pieces.cross_pieces.Statement.{statement}
@@ -95,7 +94,8 @@ returns-3 c =
     let s = c .before .before .before in
     let b = s .pre .near in
     c .together .ensures ∙ (λ i. say (together (A-out s i) (B-out s i)))
-    ∙ ap say (pieces-together (A s) (B s) (eq-gives b acrossE (lit 0) tt tt (c .before .before .if1 .left)) (eq-gives b offE (lit 0) tt tt (c .before .if2 .left)))
+    ∙ ap say (pieces-together (A s) (B s) (eq-gives b acrossE (lit 0) tt tt (c .before .before .if1 .left))
+    (eq-gives b offE (lit 0) tt tt (c .before .if2 .left)))
 
 pub cross-pieces-spec : {M : Type 1} → statement M
 cross-pieces-spec =

@@ -6,13 +6,12 @@ use Rattle.whole.specs.Sign.{sgn}
 use Rattle.whole.specs.SignLaws.{sgn-mul-self, size-above}
 use Rattle.whole.specs.Ring.{Expr, var, _⊖_, _⊗_, ev}
 use Rattle.whole.specs.Flat.{mach, need, gives, small, held}
-use Rattle.whole.specs.Bound.{Within, w-is, w-lit, w-pos, w-mul, w-sgn, w-size}
+use Rattle.whole.specs.Bound.{w-is, w-lit, w-pos, w-mul, w-sgn, w-size}
 use Rattle.whole.specs.Tests.{out, out-ok}
 use Rattle.sheet.specs.Figure.{_⇀_}
 use Rattle.sheet.specs.Points.{size, divided}
 use Rattle.sheet.specs.EndsLaws.{moment-is}
 use Rattle.sheet.specs.Crossing.{cross}
-use Rattle.kernel.specs.Bounds.{Turned}
 use Rattle.kernel.specs.Pieces.{at}
 use Rattle.kernel.proofs.Eight.{dxE, dyE, fxE, fyE, acrossE}
 use Rattle.kernel.proofs.pieces.meeting_point.Statement.{statement}

@@ -5,7 +5,7 @@ use lib.IntN.{ℤ, pos, _*ℤ_}
 use borrow.Author.Tests.{not-true, not-false}
 use Rattle.whole.specs.Sign.{sgn}
 use Rattle.whole.specs.SignLaws.{sgn-mul-self}
-use Rattle.whole.specs.Ring.{Expr, var, _⊖_, _⊗_, ev}
+use Rattle.whole.specs.Ring.{Expr, _⊖_, _⊗_, ev}
 use Rattle.whole.specs.Flat.{need, gives, small, held}
 use Rattle.whole.specs.Bound.{w-is, w-lit, w-pos, fits64}
 use Rattle.whole.specs.Tests.{out, out-is, out-ok}

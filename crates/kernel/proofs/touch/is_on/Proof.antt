@@ -1,6 +1,6 @@
 use mathlib.Core.Path.{_≡_, sym, _∙_, ap}
 use mathlib.Core.List.{List, [], _∷_}
-use lib.IntN.{ℤ, pos}
+use lib.IntN.{ℤ}
 use Rattle.whole.specs.Ring.{Expr, var, _⊖_, _⊗_}
 use Rattle.whole.specs.Flat.{All, none, _also_, mach, need, gives, held}
 use Rattle.whole.specs.Tests.{out, out-is}
@@ -80,7 +80,8 @@ returns c =
     let k = moment (p s) (d s) in
     let test = flag (c .before .before) ∙ c .before .if1 .taken in
     c .is-on-flat .ensures
-    ∙ (λ i. onBy (out-is (s .fits .ox) i) (out-is (s .fits .oy) i) (flat (out-is (s .fits .dx) i) (out-is (s .fits .dy) i) (gives (bounds s) kE tt i)))
+    ∙ (λ i. onBy (out-is (s .fits .ox) i) (out-is (s .fits .oy) i)
+    (flat (out-is (s .fits .dx) i) (out-is (s .fits .dy) i) (gives (bounds s) kE tt i)))
     ∙ sym (on-by-divided ox oy (flat dx dy k) (flat-moves dx dy k (s .pre .1 .moves) test))
     ∙ sym (ap (λ (e : Point). onBy ox oy (divided e)) (far-flat dx dy k test))
 
@@ -100,7 +101,8 @@ returns-2 c =
     let k = moment (p s) (d s) in
     let test = flag (c .before .before) ∙ c .before .if1 .left in
     c .is-on-steep .ensures
-    ∙ (λ i. onBy (out-is (s .fits .ox) i) (out-is (s .fits .oy) i) (steep (out-is (s .fits .dx) i) (out-is (s .fits .dy) i) (gives (bounds s) kE tt i)))
+    ∙ (λ i. onBy (out-is (s .fits .ox) i) (out-is (s .fits .oy) i)
+    (steep (out-is (s .fits .dx) i) (out-is (s .fits .dy) i) (gives (bounds s) kE tt i)))
     ∙ sym (on-by-divided ox oy (steep dx dy k) (steep-moves dx dy k (s .pre .1 .moves) test))
     ∙ sym (ap (λ (e : Point). onBy ox oy (divided e)) (far-steep dx dy k test))
 

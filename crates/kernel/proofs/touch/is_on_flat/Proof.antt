@@ -1,10 +1,10 @@
 use mathlib.Core.Path.{_≡_, sym, _∙_, ap, ap₂}
 use mathlib.Core.Bool.{_&&_}
-use mathlib.Core.List.{List, [], _∷_}
-use lib.IntN.{ℤ, pos, negℤ, _+ℤ_, _-ℤ_, _*ℤ_}
+use mathlib.Core.List.{[], _∷_}
+use lib.IntN.{ℤ, pos, _+ℤ_, _*ℤ_}
 use Rattle.whole.specs.Sign.{sgn}
 use Rattle.whole.specs.SignLaws.{sgn-abs}
-use Rattle.whole.specs.Ring.{Expr, var, lit, _⊕_, _⊖_, _⊗_, ⊝_, ring}
+use Rattle.whole.specs.Ring.{Expr, var, lit, _⊕_, _⊗_, ring}
 use Rattle.whole.specs.Flat.{All, none, _also_, need, raw-is}
 use Rattle.whole.specs.Bound.{w-is, w-sgn}
 use Rattle.whole.specs.Tests.{eqZ, out-is, fits-ok, eq-flag, lit-flag}

@@ -1,5 +1,5 @@
 use mathlib.Core.Path.{_≡_, sym, _∙_, ap}
-use mathlib.Core.List.{List, [], _∷_}
+use mathlib.Core.List.{[], _∷_}
 use lib.IntN.{ℤ, pos, _+ℤ_, _*ℤ_}
 use Rattle.whole.specs.Ring.{Expr, var, lit, _⊕_, _⊗_}
 use Rattle.whole.specs.Flat.{All, none, _also_, need, gives, lt-gives, eq-gives, ne-gives}

@@ -4,7 +4,7 @@ use Rattle.whole.specs.Tests.{out, out-is}
 use Rattle.sheet.specs.Figure.{Vec}
 use Rattle.sheet.specs.Ends.{farEnd, reverse}
 use Rattle.sheet.specs.Crossing.{Meeting, none, point}
-use Rattle.kernel.specs.Pieces.{at, onBy}
+use Rattle.kernel.specs.Pieces.{at, onBy, endBy}
 use Rattle.kernel.proofs.Eight.{say}
 use lib.IntN.{pos, negℤ, +ℤ-idl}
 use Rattle.whole.specs.Laws.{eq-of-sub}
@@ -41,7 +41,7 @@ flag c =
 
 -- the other end
 abbrev otherwise : tie.Start → Meeting
-otherwise s = cond (onBy (s .args .ox) (s .args .oy) (farEnd (p s) (reverse (d s)))) (point (farEnd (p s) (reverse (d s)))) none
+otherwise s = endBy (s .args .ox) (s .args .oy) (farEnd (p s) (reverse (d s))) none
 
 is-on-requires : tie.Need-is-on-requires
 is-on-requires c κs = search needs
@@ -86,7 +86,7 @@ returns-2 c =
     let back = gives (h .bdx also flat.none) (lit 0 ⊖ var 0) tt ∙ +ℤ-idl (negℤ (s .args .dx)) in
     let down = gives (h .bdy also flat.none) (lit 0 ⊖ var 0) tt ∙ +ℤ-idl (negℤ (s .args .dy)) in
     c .with-end .ensures
-    ∙ (λ i. say (cond (onBy (out-is (s .fits .ox) i) (out-is (s .fits .oy) i) (farEnd (p-out s i) (at (back i) (down i)))) (point (farEnd (p-out s i) (at (back i) (down i)))) none))
+    ∙ (λ i. say (endBy (out-is (s .fits .ox) i) (out-is (s .fits .oy) i) (farEnd (p-out s i) (at (back i) (down i))) none))
     ∙ sym (ap (λ (t : Bool). say (cond t (point (farEnd (p s) (d s))) (otherwise s))) (flag (c .before .before) ∙ c .before .if1 .left))
 
 pub with-line-spec : {M : Type 1} → statement M

@@ -1,21 +1,20 @@
 use mathlib.Core.Path.{_≡_, sym, _∙_, ap, subst}
-use mathlib.Core.Bool.{cond}
 use mathlib.Core.List.{List, [], _∷_}
-use lib.IntN.{ℤ, pos}
+use lib.IntN.{ℤ}
 use Rattle.whole.specs.Laws.{eq-of-sub}
-use Rattle.whole.specs.Ring.{Expr, var, _⊖_}
+use Rattle.whole.specs.Ring.{var}
 use Rattle.whole.specs.Flat as flat
 use Rattle.whole.specs.Flat.{All, _also_, mach, need, gives, held}
 use Rattle.whole.specs.Bound.{Within, fits64, w-pos}
 use Rattle.whole.specs.Tests.{out, out-is, out-ok, eq-taken, eq-left}
 use Rattle.sheet.specs.declared.Object.{Object}
-use Rattle.sheet.specs.Figure.{Vec, _⇀_, outX, outY, sideOf, first, second}
+use Rattle.sheet.specs.Figure.{_⇀_, outX, outY, sideOf, first, second}
 use Rattle.sheet.specs.RefusalLaws.{Proper}
 use Rattle.sheet.specs.Ends.{farEnd, reverse}
-use Rattle.sheet.specs.Crossing.{none, point}
+use Rattle.sheet.specs.Crossing.{none}
 use Rattle.kernel.specs.Bounds.{Ahead, Out}
 use Rattle.kernel.specs.Kinds.{accepted-pair}
-use Rattle.kernel.specs.Pieces.{at, object, onBy, sidesBy, out-within, with-segment, with-ray, with-side, with-line}
+use Rattle.kernel.specs.Pieces.{at, object, endBy, sidesBy, out-within, with-segment, with-ray, with-side, with-line}
 use Rattle.kernel.proofs.Eight.{dxE, dyE, say}
 use borrow.Author.Needs.{needs}
 use Rattle.kernel.proofs.touch.with_side.Statement.{statement}
@@ -87,10 +86,16 @@ p-out s = λ i. at (out-is (s .fits .px) i) (out-is (s .fits .py) i)
 d-out : (c : tie.Else2) → let s = start (c .before) in at (mach (ρ s) dxE) (mach (ρ s) dyE) ≡ first (o s) ⇀ second (o s)
 d-out c = let b = bounds (start (c .before)) (proper c) in λ i. at (gives b dxE tt i) (gives b dyE tt i)
 
-far : (c : tie.Else2) → let s = start (c .before) in farEnd (at (out (s .args .px)) (out (s .args .py))) (at (mach (ρ s) dxE) (mach (ρ s) dyE)) ≡ farEnd (first (o s)) (first (o s) ⇀ second (o s))
+far : (c : tie.Else2) →
+    let s = start (c .before) in
+    farEnd (at (out (s .args .px)) (out (s .args .py))) (at (mach (ρ s) dxE) (mach (ρ s) dyE))
+    ≡ farEnd (first (o s)) (first (o s) ⇀ second (o s))
 far c = λ i. farEnd (p-out (start (c .before)) i) (d-out c i)
 
-near : (c : tie.Else2) → let s = start (c .before) in farEnd (at (out (s .args .px)) (out (s .args .py))) (reverse (at (mach (ρ s) dxE) (mach (ρ s) dyE))) ≡ farEnd (first (o s)) (reverse (first (o s) ⇀ second (o s)))
+near : (c : tie.Else2) →
+    let s = start (c .before) in
+    farEnd (at (out (s .args .px)) (out (s .args .py))) (reverse (at (mach (ρ s) dxE) (mach (ρ s) dyE)))
+    ≡ farEnd (first (o s)) (reverse (first (o s) ⇀ second (o s)))
 near c = λ i. farEnd (p-out (start (c .before)) i) (reverse (d-out c i))
 
 returns : tie.Need-returns
@@ -137,7 +142,7 @@ returns-3 c =
     let t = c .before .before in
     let s = start (t .before) in
     c .with-end .ensures
-    ∙ (λ i. say (cond (onBy (ox-is (t .before .before) i) (oy-is (t .before) i) (far t i)) (point (far t i)) none))
+    ∙ (λ i. say (endBy (ox-is (t .before .before) i) (oy-is (t .before) i) (far t i) none))
     ∙ sym (ap say (with-ray (sideOf (s .args .n)) (o s) (eq-taken (s .fits .kind) (fits64 (w-pos 2) tt) (c .before .if3 .taken))))
 
 with-line-requires : tie.Need-with-line-requires
@@ -150,7 +155,7 @@ returns-4 c =
     let x = ox-is (t .before .before) in
     let y = oy-is (t .before) in
     c .with-line .ensures
-    ∙ (λ i. say (cond (onBy (x i) (y i) (far t i)) (point (far t i)) (cond (onBy (x i) (y i) (near t i)) (point (near t i)) none)))
+    ∙ (λ i. say (endBy (x i) (y i) (far t i) (endBy (x i) (y i) (near t i) none)))
     ∙ sym (ap say (with-line (sideOf (s .args .n)) (o s) (s .pre)
     (eq-left (t .before .before .before .if1 .left)) (eq-left (c .before .if3 .left)) (eq-left (t .if2 .left))))
 
