@@ -1,5 +1,6 @@
 // Whole numbers, makers, ends and signs.
 use crate::say;
+use kernel::crossing::cross;
 use kernel::ends::ends_of;
 use kernel::points::check_object;
 use kernel::points::check_point;
@@ -126,4 +127,28 @@ pub fn signs() {
     say::signed(side_of(obj(4, 2, 0, 0, 0), pt(1, 0, -1, 0, 1)));
     say::text(b"side of no object, then no point");
     say::signed(side_of(obj(9, 0, 0, 0, 0), pt(0, 0, 0, 0, 0)));
+}
+
+// Rows 8 and 9, touching, one line, and the refusals in their order.
+pub fn crossings() {
+    say::text(b"rays from 0 0 through 1 0 and through -1 0");
+    say::crossing(cross(obj(2, 0, 0, 1, 0), obj(2, 0, 0, -1, 0)));
+    say::text(b"line 0 0 to 1 1 with side 3");
+    say::crossing(cross(obj(3, 0, 0, 1, 1), obj(4, 3, 0, 0, 0)));
+    say::text(b"line 0 0 to 1 1 with side 4");
+    say::crossing(cross(obj(3, 0, 0, 1, 1), obj(4, 4, 0, 0, 0)));
+    say::text(b"segments 0 0 to 1 1 and 1 1 to 2 2");
+    say::crossing(cross(obj(1, 0, 0, 1, 1), obj(1, 1, 1, 2, 2)));
+    say::text(b"segments 0 0 to 2 2 and 1 1 to 3 3");
+    say::crossing(cross(obj(1, 0, 0, 2, 2), obj(1, 1, 1, 3, 3)));
+    say::text(b"lines 0 0 to 1 1 and 0 1 to 1 2");
+    say::crossing(cross(obj(3, 0, 0, 1, 1), obj(3, 0, 1, 1, 2)));
+    say::text(b"line 0 0 to 2 1 and segment 0 2 to 2 0");
+    say::crossing(cross(obj(3, 0, 0, 2, 1), obj(1, 0, 2, 2, 0)));
+    say::text(b"sides 1 and 1, 1 and 2, 1 and 3");
+    say::crossing(cross(obj(4, 1, 0, 0, 0), obj(4, 1, 0, 0, 0)));
+    say::crossing(cross(obj(4, 1, 0, 0, 0), obj(4, 2, 0, 0, 0)));
+    say::crossing(cross(obj(4, 1, 0, 0, 0), obj(4, 3, 0, 0, 0)));
+    say::text(b"kind 0 with p equal to q");
+    say::crossing(cross(obj(0, 0, 0, 1, 1), obj(1, 1, 1, 1, 1)));
 }

@@ -1,4 +1,5 @@
 // Document 01's cases, run: each line names a case and says what the calls answer. The file stdout has what they should.
+mod drawings;
 mod kernels;
 mod say;
 
@@ -7,4 +8,8 @@ fn main() {
     kernels::makers();
     kernels::ends();
     kernels::signs();
+    kernels::crossings();
+    drawings::reading();
+    drawings::limits();
+    drawings::writing();
 }

@@ -1,4 +1,5 @@
 // Words and numbers on standard output.
+use sheet::Crossing;
 use sheet::Ends;
 use sheet::Made;
 use sheet::Object;
@@ -21,6 +22,10 @@ pub fn number(n: i64) {
 pub fn count(n: u64) {
     text(b" ");
     io::print_decimal(1, n);
+}
+
+pub fn byte(b: u8) {
+    count(b as u64);
 }
 
 pub fn end() {
@@ -80,5 +85,23 @@ pub fn signed(s: Signed) {
             end();
         }
         Signed::Refused(n) => refused(n),
+    }
+}
+
+pub fn crossing(c: Crossing) {
+    match c {
+        Crossing::Nothing => {
+            text(b" none");
+            end();
+        }
+        Crossing::Once(e) => {
+            point(e);
+            end();
+        }
+        Crossing::Many => {
+            text(b" many");
+            end();
+        }
+        Crossing::Refused(n) => refused(n),
     }
 }

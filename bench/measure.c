@@ -1,0 +1,94 @@
+/* Times the proved code beside plain C of the same algorithms, in one process and one run. Prints nanoseconds and the ratio. */
+#include "plain.h"
+#include <stdio.h>
+#include <stdlib.h>
+#include <string.h>
+#include <time.h>
+
+/* each answers its refusal, 0 for none */
+int64_t silvanelga_measure_list(const int64_t *list, size_t length, int64_t *rows, size_t room);
+int64_t silvanelga_measure_read(const uint8_t *bytes, size_t length, int64_t *list, size_t room);
+int64_t silvanelga_measure_write(const int64_t *list, size_t length, uint8_t *bytes, size_t room);
+
+enum { NUMBERS = WIDTH * MOST, PAIRS = MOST * (MOST - 1) / 2, BYTES = 2 + 9 * MOST, TURNS = 25 };
+
+static int64_t list[NUMBERS], back[NUMBERS], rows[ROW * PAIRS], other[ROW * PAIRS];
+static uint8_t bytes[BYTES], again[BYTES];
+
+static uint64_t state = 88172645463325252u;
+static int64_t pick(int64_t low, int64_t high)
+{
+    state ^= state << 13, state ^= state >> 7, state ^= state << 17;
+    return low + (int64_t)(state % (uint64_t)(high - low + 1));
+}
+
+static void pair(int64_t *o, int64_t kind, int64_t reach)
+{
+    o[0] = kind;
+    do {
+        for (int k = 1; k < WIDTH; k++) o[k] = pick(-reach, reach);
+    } while (o[1] == o[3] && o[2] == o[4]);
+}
+
+static void uniform(int64_t *o, int i) { (void)i; pair(o, pick(1, 3), REACH); }
+static void lines(int64_t *o, int i) { (void)i; pair(o, 3, REACH); }
+static void grid(int64_t *o, int i) { (void)i; pair(o, pick(1, 3), 3); }
+static void sides(int64_t *o, int i)
+{
+    if (i % 4 != 0) { uniform(o, i); return; }
+    o[0] = 4, o[1] = pick(1, 4), o[2] = o[3] = o[4] = 0;
+}
+static void chains(int64_t *o, int i)
+{
+    static int64_t x, y;
+    if (i % 32 == 0) x = pick(-1500, 1500), y = pick(-1500, 1500);
+    o[0] = 1, o[1] = x, o[2] = y;
+    do x = o[1] + pick(-9, 9), y = o[2] + pick(-9, 9); while (x == o[1] && y == o[2]);
+    o[3] = x, o[4] = y;
+}
+
+static double now(void)
+{
+    struct timespec t;
+    clock_gettime(CLOCK_MONOTONIC, &t);
+    return 1e9 * (double)t.tv_sec + (double)t.tv_nsec;
+}
+
+static void fail(const char *what) { fprintf(stderr, "measure: %s\n", what); exit(1); }
+
+/* the least time of some turns, the two taken in turn */
+#define RACE(one, two, first, second)                                     \
+    for (int t = 0; t < TURNS; t++) {                                     \
+        double a = now(); one; double b = now(); two; double c = now();   \
+        if (t == 0 || b - a < first) first = b - a;                       \
+        if (t == 0 || c - b < second) second = c - b;                     \
+    }
+
+int main(void)
+{
+    static const struct { const char *name; void (*make)(int64_t *, int); } kinds[] = {
+        {"uniform", uniform}, {"lines only", lines}, {"grid", grid}, {"chains", chains}, {"with sides", sides}};
+    printf("%-12s %9s %12s %12s %7s\n", "listing", "rows", "ns a pair", "plain C", "ratio");
+    for (size_t k = 0; k < sizeof kinds / sizeof *kinds; k++) {
+        double ours = 0, plain = 0;
+        for (int i = 0; i < MOST; i++) kinds[k].make(list + WIDTH * i, i);
+        memset(rows, 1, sizeof rows), memset(other, 1, sizeof other);
+        int64_t n = plain_list(list, NUMBERS, other, ROW * PAIRS);
+        if (n < 0 || silvanelga_measure_list(list, NUMBERS, rows, ROW * PAIRS) != 0) fail("a sheet was refused");
+        if (memcmp(rows, other, sizeof rows) != 0) fail("the two listings differ");
+        RACE(silvanelga_measure_list(list, NUMBERS, rows, ROW * PAIRS), plain_list(list, NUMBERS, other, ROW * PAIRS), ours, plain)
+        printf("%-12s %9lld %12.2f %12.2f %7.2f\n", kinds[k].name, (long long)n, ours / PAIRS, plain / PAIRS, ours / plain);
+    }
+
+    double ours = 0, plain = 0;
+    for (int i = 0; i < MOST; i++) sides(list + WIDTH * i, i);
+    int64_t size = plain_write(list, NUMBERS, again, BYTES);
+    if (size < 0 || silvanelga_measure_write(list, NUMBERS, bytes, BYTES) != 0 || memcmp(bytes, again, BYTES) != 0) fail("the two drawings differ");
+    if (silvanelga_measure_read(bytes, (size_t)size, back, NUMBERS) != 0 || memcmp(list, back, sizeof list) != 0) fail("the drawing did not come back");
+    printf("\n%-12s %9s %12s %12s %7s\n", "drawing", "bytes", "ns a byte", "plain C", "ratio");
+    RACE(silvanelga_measure_write(list, NUMBERS, bytes, BYTES), plain_write(list, NUMBERS, again, BYTES), ours, plain)
+    printf("%-12s %9lld %12.2f %12.2f %7.2f\n", "write", (long long)size, ours / (double)size, plain / (double)size, ours / plain);
+    RACE(silvanelga_measure_read(bytes, (size_t)size, back, NUMBERS), plain_read(bytes, (size_t)size, list, NUMBERS), ours, plain)
+    printf("%-12s %9lld %12.2f %12.2f %7.2f\n", "read", (long long)size, ours / (double)size, plain / (double)size, ours / plain);
+    return 0;
+}

@@ -1,0 +1,16 @@
+/* The kernel's algorithms once more in plain C, with no proof and no checks beyond document 01's: what a careful C programmer would
+   write. The measure that the proved code is held against. */
+#ifndef PLAIN_H
+#define PLAIN_H
+#include <stddef.h>
+#include <stdint.h>
+
+enum { WIDTH = 5, ROW = 8, MOST = 512, REACH = 2000 };
+
+/* the rows of all sharing pairs; their count, or minus the refusal */
+int64_t plain_list(const int64_t *list, size_t length, int64_t *rows, size_t room);
+/* a stored drawing read, and written; the count of numbers or bytes, or minus the refusal */
+int64_t plain_read(const uint8_t *bytes, size_t length, int64_t *list, size_t room);
+int64_t plain_write(const int64_t *list, size_t length, uint8_t *bytes, size_t room);
+
+#endif

@@ -1,0 +1,58 @@
+use borrow.Author.Needs.{needs}
+use Prim.Native.Nat.{_≤_, _*_, _-_}
+use native.Mathlib.Omega.{arith}
+use Rattle.list.proofs.say_listing.Statement.{statement}
+use Rattle.list.proofs.say_listing.Tie as tie
+
+abbrev Inv-loop : tie.InvT-loop
+Inv-loop list count most total₀ i₀ total i = (i ≤ most) × (total ≤ 512 * i)
+
+abbrev μ-loop : tie.MeasureT-loop
+μ-loop list count most total₀ i₀ total i = most - i
+
+say-objects-requires : tie.Need-say-objects-requires Inv-loop μ-loop
+say-objects-requires c κs = search needs
+
+of-most-requires : tie.Need-of-most-requires Inv-loop μ-loop
+of-most-requires c κs = search needs
+
+loop-holds : tie.Need-loop-holds Inv-loop μ-loop
+loop-holds c = omega arith
+
+say-rows-requires : tie.Need-say-rows-requires Inv-loop μ-loop
+say-rows-requires c κs = search needs
+
+add-total : tie.Need-add-total Inv-loop μ-loop
+add-total c = omega arith
+
+add-i : tie.Need-add-i Inv-loop μ-loop
+add-i c = omega arith
+
+loop-less : tie.Need-loop-less Inv-loop μ-loop
+loop-less c = omega arith
+
+loop-again : tie.Need-loop-again Inv-loop μ-loop
+loop-again c = omega arith
+
+say-count-requires : tie.Need-say-count-requires Inv-loop μ-loop
+say-count-requires c κs = search needs
+
+returns : tie.Need-returns Inv-loop μ-loop
+returns c = search needs
+
+pub say-listing-spec : {M : Type 1} → statement M
+say-listing-spec =
+    tie.close
+    (tie.spec
+    Inv-loop
+    μ-loop
+    say-objects-requires
+    of-most-requires
+    loop-holds
+    say-rows-requires
+    add-total
+    add-i
+    loop-less
+    loop-again
+    say-count-requires
+    returns)

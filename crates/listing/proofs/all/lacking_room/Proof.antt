@@ -1,0 +1,58 @@
+use native.Mathlib.Omega.{arith}
+use Rattle.listing.specs.Lists.{countOf}
+use Rattle.listing.specs.Rows.{sharing}
+use Rattle.listing.specs.RowsLaws.{square-most, square-least, rows-most, length-rows, first-counts-most}
+use Rattle.listing.specs.ListingLaws.{lacks-none, lacks}
+use borrow.Author.Needs.{needs}
+use Rattle.listing.proofs.all.lacking_room.Statement.{statement}
+use Rattle.listing.proofs.all.lacking_room.Tie as tie
+use Rattle.listing.proofs.all.lacking_room.Reads as reads
+use Rattle.listing.proofs.all.lacking_room.Lts as lts
+use Rattle.listing.proofs.all.count_rows.Reads as count-rows-reads
+
+mul-square : tie.Need-mul-square
+mul-square c = omega (arith, square-most (c .pre .few))
+
+sub-pairs : tie.Need-sub-pairs
+sub-pairs c = square-least (countOf (c .args .list .now))
+
+mul-every : tie.Need-mul-every
+mul-every c = omega (arith, square-most (c .pre .few))
+
+returns : tie.Need-returns
+returns c =
+    let l = c .before .args .list .now in
+    lacks-none (sharing l) (c .before .args .room) (omega (arith, rows-most l, length-rows l))
+
+count-rows-requires : tie.Need-count-rows-requires
+count-rows-requires c κs = search needs
+
+mul-need : tie.Need-mul-need
+mul-need c =
+    let s = c .before .before in
+    let l = s .args .list .now in
+    omega (arith, c .count-rows .ensures, s .pre .few, first-counts-most l (s .pre .few) (countOf l))
+
+returns-2 : tie.Need-returns-2
+returns-2 c =
+    let s = c .before .before .before in
+    lacks-none (sharing (s .args .list .now)) (s .args .room) (omega (arith, c .before .count-rows .ensures))
+
+returns-3 : tie.Need-returns-3
+returns-3 c =
+    let s = c .before .before .before in
+    let k = c .before .count-rows in
+    lacks (sharing (s .args .list .now)) (s .args .room) (k .result) (k .ensures) (omega arith)
+
+pub lacking-room-spec : {M : Type 1} → statement M
+lacking-room-spec =
+    tie.close
+    (tie.spec
+    mul-square
+    sub-pairs
+    mul-every
+    returns
+    count-rows-requires
+    mul-need
+    returns-2
+    returns-3)

@@ -1,0 +1,104 @@
+use mathlib.Core.Path.{_≡_, sym, _∙_}
+use lib.IntN.{pos}
+use Rattle.whole.specs.Bound.{fits64, w-pos}
+use Rattle.whole.specs.Tests.{fits-ok, eq-taken}
+use Rattle.listing.specs.ListsLaws.{Listable, listable}
+use Rattle.listing.specs.Rows.{rowsOf, sharing}
+use Rattle.listing.specs.RowsLaws.{length-rows}
+use Rattle.listing.specs.Listing.{allRefusal}
+use Rattle.listing.specs.ListingLaws.{all-refusal}
+use Rattle.listing.proofs.Cases.{refused, short, room, done}
+use borrow.Author.Needs.{needs}
+use Rattle.listing.proofs.list_all.Statement.{statement}
+use Rattle.listing.proofs.list_all.Tie as tie
+use Rattle.listing.proofs.list_all.Reads as reads
+use Rattle.listing.proofs.list_all.Lts as lts
+use Rattle.listing.proofs.accept.Reads as accept-reads
+use Rattle.listing.proofs.all.lacking_room.Reads as lacking-room-reads
+use Rattle.listing.proofs.all.put_rows.Reads as put-rows-reads
+use Rattle.listing.proofs.objects.list_refusal.Reads as list-refusal-reads
+use Rattle.listing.proofs.refuse.Reads as refuse-reads
+
+-- the first check, and what is known where it found nothing
+checked : (c : tie.After-list-refusal) → c .list-refusal .result ≡ allRefusal (c .before .args .list .now)
+checked c = c .list-refusal .ensures ∙ sym (all-refusal (c .before .args .list .now))
+
+nought : (c : tie.Else1) → c .before .list-refusal .result ≡ pos 0
+nought c = eq-taken (fits-ok (c .before .list-refusal .result) (c .before .list-refusal .ok)) (fits64 (w-pos 0) tt) (c .if1 .left)
+
+accepted : (c : tie.Else1) → allRefusal (c .before .before .args .list .now) ≡ pos 0
+accepted c = sym (checked (c .before)) ∙ nought c
+
+known : (c : tie.Else1) → Listable (c .before .before .args .list .now)
+known c = listable (c .before .before .args .list .now) (sym (c .before .list-refusal .ensures) ∙ nought c)
+
+list-refusal-requires : tie.Need-list-refusal-requires
+list-refusal-requires c κs = search needs
+
+refuse-requires : tie.Need-refuse-requires
+refuse-requires c κs = search needs
+
+returns : tie.Need-returns
+returns c =
+    let d = c .before in
+    let s = d .before .before in
+    let l = s .args .list .now in
+    let r = d .before .list-refusal in
+    let x = refused (sharing l) (rowsOf l) (s .args .out .now) (r .result) (fits-ok (r .result) (r .ok)) (checked (d .before)) (d .if1 .taken) in
+    (c .refuse .ensures ∙ x .0, x .1)
+
+lacking-room-requires : tie.Need-lacking-room-requires
+lacking-room-requires c κs = known c
+
+refuse-requires-2 : tie.Need-refuse-requires-2
+refuse-requires-2 c κs = search needs
+
+returns-2 : tie.Need-returns-2
+returns-2 c =
+    let d = c .before in
+    let e = d .before .before in
+    let s = e .before .before in
+    let l = s .args .list .now in
+    let k = d .before .lacking-room in
+    let x = short (sharing l) (rowsOf l) (s .args .out .now) (accepted e) (length-rows l) (k .result) (k .ensures) (d .if2 .taken) in
+    (c .refuse2 .ensures ∙ x .0, x .1)
+
+put-rows-requires : tie.Need-put-rows-requires
+put-rows-requires c κs =
+    let k = c .before .before in
+    let s = k .before .before .before in
+    let l = s .args .list .now in
+    (known (k .before), room (sharing l) (rowsOf l) (s .args .out .now) (length-rows l) (k .lacking-room .result) (k .lacking-room .ensures) (c .before .if2 .left))
+
+accept-requires : tie.Need-accept-requires
+accept-requires c κs = search needs
+
+same-length : tie.Need-same-length
+same-length c = search needs
+
+returns-3 : tie.Need-returns-3
+returns-3 c =
+    let d = c .before in
+    let k = d .before .before .before .before in
+    let s = k .before .before .before in
+    let l = s .args .list .now in
+    let w = d .before .put-rows in
+    let fits = room (sharing l) (rowsOf l) (s .args .out .now) (length-rows l) (k .lacking-room .result) (k .lacking-room .ensures)
+    (d .before .before .before .if2 .left) in
+    let x = done (sharing l) (rowsOf l) (s .args .out .now) (accepted (k .before)) (length-rows l) fits (w .result) (w .ensures .0) _ (w .ensures .1) in
+    (c .accept .ensures ∙ x .0, x .1)
+
+pub list-all-spec : {M : Type 1} → statement M
+list-all-spec =
+    tie.close
+    (tie.spec
+    list-refusal-requires
+    refuse-requires
+    returns
+    lacking-room-requires
+    refuse-requires-2
+    returns-2
+    put-rows-requires
+    accept-requires
+    same-length
+    returns-3)

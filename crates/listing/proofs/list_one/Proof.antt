@@ -1,0 +1,124 @@
+use Prim.Native.Nat.{_<_}
+use mathlib.Core.Path.{_≡_, sym, _∙_}
+use native.Mathlib.Omega.{arith}
+use native.Mathlib.Nat.{zero-add}
+use lib.IntN.{pos}
+use lib.ListN.{length}
+use Rattle.whole.specs.Bound.{fits64, w-pos}
+use Rattle.whole.specs.Tests.{fits-ok, eq-taken}
+use Rattle.sheet.specs.AnswersLaws.{or-zero}
+use Rattle.listing.specs.Lists.{countOf, listRefusal, indexRefusal}
+use Rattle.listing.specs.ListsLaws.{Listable, listable, index-below}
+use Rattle.listing.specs.Rows.{rowsWith, sharingWith}
+use Rattle.listing.specs.RowsLaws.{length-rows-with}
+use Rattle.listing.specs.Listing.{oneRefusal}
+use Rattle.listing.specs.ListingLaws.{one-refusal}
+use Rattle.listing.proofs.Cases.{refused, short, room, done}
+use borrow.Author.Needs.{needs}
+use Rattle.listing.proofs.list_one.Statement.{statement}
+use Rattle.listing.proofs.list_one.Tie as tie
+use Rattle.listing.proofs.list_one.Reads as reads
+use Rattle.listing.proofs.list_one.Lts as lts
+use Rattle.listing.proofs.accept.Reads as accept-reads
+use Rattle.listing.proofs.objects.index_refusal.Reads as index-refusal-reads
+use Rattle.listing.proofs.refuse.Reads as refuse-reads
+use Rattle.listing.proofs.rows.lacking_with.Reads as lacking-with-reads
+use Rattle.listing.proofs.rows.put_rows_with.Reads as put-rows-with-reads
+
+-- the first check, and what is known where it found nothing
+checked : (c : tie.After-index-refusal) → c .index-refusal .result ≡ oneRefusal (c .before .args .list .now) (c .before .args .i)
+checked c = c .index-refusal .ensures ∙ sym (one-refusal (c .before .args .list .now) (c .before .args .i))
+
+nought : (c : tie.Else1) → c .before .index-refusal .result ≡ pos 0
+nought c = eq-taken (fits-ok (c .before .index-refusal .result) (c .before .index-refusal .ok)) (fits64 (w-pos 0) tt) (c .if1 .left)
+
+accepted : (c : tie.Else1) → oneRefusal (c .before .before .args .list .now) (c .before .before .args .i) ≡ pos 0
+accepted c = sym (checked (c .before)) ∙ nought c
+
+known : (c : tie.Else1) → Listable (c .before .before .args .list .now) × (c .before .before .args .i < countOf (c .before .before .args .list .now))
+known c =
+    let s = c .before .before in
+    let l = s .args .list .now in
+    let z = or-zero (listRefusal l) (indexRefusal l (s .args .i)) (sym (c .before .index-refusal .ensures) ∙ nought c) in
+    (listable l (z .0), index-below l (s .args .i) (z .1))
+
+index-refusal-requires : tie.Need-index-refusal-requires
+index-refusal-requires c κs = search needs
+
+refuse-requires : tie.Need-refuse-requires
+refuse-requires c κs = search needs
+
+returns : tie.Need-returns
+returns c =
+    let d = c .before in
+    let s = d .before .before in
+    let l = s .args .list .now in
+    let r = d .before .index-refusal in
+    let x = refused (sharingWith l (s .args .i)) (rowsWith l (s .args .i)) (s .args .out .now)
+    (r .result) (fits-ok (r .result) (r .ok)) (checked (d .before)) (d .if1 .taken) in
+    (c .refuse .ensures ∙ x .0, x .1)
+
+lacking-with-requires : tie.Need-lacking-with-requires
+lacking-with-requires c κs = known c
+
+refuse-requires-2 : tie.Need-refuse-requires-2
+refuse-requires-2 c κs = search needs
+
+returns-2 : tie.Need-returns-2
+returns-2 c =
+    let d = c .before in
+    let e = d .before .before in
+    let s = e .before .before in
+    let l = s .args .list .now in
+    let i = s .args .i in
+    let x = short (sharingWith l i) (rowsWith l i) (s .args .out .now) (accepted e) (length-rows-with l i (known e .1))
+    (d .before .lacking-with .result) (d .before .lacking-with .ensures) (d .if2 .taken) in
+    (c .refuse2 .ensures ∙ x .0, x .1)
+
+put-rows-with-requires : tie.Need-put-rows-with-requires
+put-rows-with-requires c κs =
+    let k = c .before .before in
+    let e = k .before in
+    let s = e .before .before in
+    let l = s .args .list .now in
+    let i = s .args .i in
+    let fits = room (sharingWith l i) (rowsWith l i) (s .args .out .now) (length-rows-with l i (known e .1))
+    (k .lacking-with .result) (k .lacking-with .ensures) (c .before .if2 .left) in
+    (known e, omega (arith, fits))
+
+accept-requires : tie.Need-accept-requires
+accept-requires c κs = search needs
+
+same-length : tie.Need-same-length
+same-length c = search needs
+
+returns-3 : tie.Need-returns-3
+returns-3 c =
+    let d = c .before in
+    let k = d .before .before .before .before in
+    let e = k .before in
+    let s = e .before .before in
+    let l = s .args .list .now in
+    let i = s .args .i in
+    let w = d .before .put-rows-with in
+    let h = length-rows-with l i (known e .1) in
+    let fits = room (sharingWith l i) (rowsWith l i) (s .args .out .now) h (k .lacking-with .result) (k .lacking-with .ensures)
+    (d .before .before .before .if2 .left) in
+    let x = done (sharingWith l i) (rowsWith l i) (s .args .out .now) (accepted e) h fits
+    (w .result) (w .ensures .0 ∙ zero-add (length (rowsWith l i))) _ (w .ensures .1) in
+    (c .accept .ensures ∙ x .0, x .1)
+
+pub list-one-spec : {M : Type 1} → statement M
+list-one-spec =
+    tie.close
+    (tie.spec
+    index-refusal-requires
+    refuse-requires
+    returns
+    lacking-with-requires
+    refuse-requires-2
+    returns-2
+    put-rows-with-requires
+    accept-requires
+    same-length
+    returns-3)

@@ -1,0 +1,122 @@
+use Prim.Native.Nat.{_+_}
+use mathlib.Core.Path.{_≡_, sym, ap, _∙_}
+use mathlib.Core.List.{_∷_}
+use native.Mathlib.Omega.{arith}
+use lib.IntN.{pos}
+use lib.ListN.{length}
+use lib.Seq.{sets}
+use Rattle.sheet.specs.Points.{numbers}
+use Rattle.sheet.specs.Crossing.{Meeting, point, many}
+use Rattle.kernel.proofs.Handed as handed
+use Rattle.listing.specs.Rows.{rowWidth, meetingOf, rowBy}
+use Rattle.listing.specs.RowsLaws.{meetingBy}
+use borrow.Author.Needs.{needs}
+use Rattle.listing.proofs.rows.put_row.Statement.{statement}
+use Rattle.listing.proofs.rows.put_row.Tie as tie
+use Rattle.listing.proofs.rows.put_row.Reads as reads
+use Rattle.listing.proofs.rows.put_row.Lts as lts
+use Rattle.listing.proofs.rows.meet.Reads as meet-reads
+use Rattle.listing.proofs.rows.write_row.Reads as write-row-reads
+
+meet-requires : tie.Need-meet-requires
+meet-requires c κs = search needs
+
+enum-known-p : tie.Need-enum-known-p
+enum-known-p c = search needs
+
+-- what the two share, in each arm
+met-once : (c : tie.After-p) → point (c .p .given .0 .0)
+    ≡ meetingOf (c .before .before .before .args .list .now) (c .before .before .before .args .i) (c .before .before .before .args .j)
+met-once c = sym (ap meetingBy (c .p .given .1)) ∙ c .before .before .meet .ensures
+
+met-many : (c : tie.After-enum-told) → many
+    ≡ meetingOf (c .before .before .before .args .list .now) (c .before .before .before .args .i) (c .before .before .before .args .j)
+met-many c = sym (ap meetingBy (c .enum-told .given .1)) ∙ c .before .before .meet .ensures
+
+write-row-requires : tie.Need-write-row-requires
+write-row-requires c κs =
+    let k = c .before .before .before .before .before .before in
+    let s = k .before .before .before .before in
+    let e : rowWidth ≡ length (rowBy (s .args .i) (s .args .j) (meetingOf (s .args .list .now) (s .args .i) (s .args .j))) =
+    ap (λ (m : Meeting). length (rowBy (s .args .i) (s .args .j) m)) (met-once (k .before)) in
+    (omega (arith, s .pre .1), (omega (arith, s .pre .0 .list .few, s .pre .0 .one), omega (arith, s .pre .0 .list .few, s .pre .0 .two)))
+
+same-length : tie.Need-same-length
+same-length c = search needs
+
+returns : tie.Need-returns
+returns c =
+    let w = c .before .write-row in
+    let k = c .before .before .before .before .before .before .before .before in
+    let s = k .before .before .before .before in
+    let t = c .before .before .before .before .before .before .struct-told .given in
+    let p = k .before .p .given .0 .0 in
+    let met : point p ≡ meetingOf (s .args .list .now) (s .args .i) (s .args .j) = met-once (k .before) in (
+      w .ensures .0 ∙ ap (λ (m : Meeting). s .args .at + length (rowBy (s .args .i) (s .args .j) m)) met,
+      w .ensures .1
+          ∙ (λ x. sets (s .args .out .now) (s .args .at) (pos (s .args .i) ∷ pos (s .args .j) ∷ pos 1
+          ∷ numbers (handed.point p (t .0 .1) (t .1 .0 .1) (t .1 .1 .0 .1) (t .1 .1 .1 .0 .1) (t .1 .1 .1 .1 .0 .1) x)))
+          ∙ ap (λ (m : Meeting). sets (s .args .out .now) (s .args .at) (rowBy (s .args .i) (s .args .j) m)) met,
+    )
+
+enum-told : tie.Need-enum-told
+enum-told c = search needs
+
+write-row-requires-2 : tie.Need-write-row-requires-2
+write-row-requires-2 c κs =
+    let s = c .before .before .before .before in
+    let e : rowWidth ≡ length (rowBy (s .args .i) (s .args .j) (meetingOf (s .args .list .now) (s .args .i) (s .args .j))) =
+    ap (λ (m : Meeting). length (rowBy (s .args .i) (s .args .j) m)) (met-many (c .before)) in
+    (omega (arith, s .pre .1), (omega (arith, s .pre .0 .list .few, s .pre .0 .one), omega (arith, s .pre .0 .list .few, s .pre .0 .two)))
+
+same-length-2 : tie.Need-same-length-2
+same-length-2 c = search needs
+
+returns-2 : tie.Need-returns-2
+returns-2 c =
+    let w = c .before .write-row2 in
+    let s = c .before .before .before .before .before .before in
+    let met = met-many (c .before .before .before) in (
+      w .ensures .0 ∙ ap (λ (m : Meeting). s .args .at + length (rowBy (s .args .i) (s .args .j) m)) met,
+      w .ensures .1 ∙ ap (λ (m : Meeting). sets (s .args .out .now) (s .args .at) (rowBy (s .args .i) (s .args .j) m)) met,
+    )
+
+enum-told-2 : tie.Need-enum-told-2
+enum-told-2 c = search needs
+
+returns-3 : tie.Need-returns-3
+returns-3 c =
+    let s = c .before .before .before in
+    let met = sym (ap meetingBy (c .enum-told2 .given .1)) ∙ c .before .before .meet .ensures in (
+      omega (arith, ap (λ (m : Meeting). length (rowBy (s .args .i) (s .args .j) m)) met),
+      ap (λ (m : Meeting). sets (s .args .out .now) (s .args .at) (rowBy (s .args .i) (s .args .j) m)) met,
+    )
+
+enum-told-3 : tie.Need-enum-told-3
+enum-told-3 c = search needs
+
+returns-4 : tie.Need-returns-4
+returns-4 c =
+    let s = c .before .before .before in
+    let met = sym (ap meetingBy (c .enum-told3 .given .1)) ∙ c .before .before .meet .ensures in (
+      omega (arith, ap (λ (m : Meeting). length (rowBy (s .args .i) (s .args .j) m)) met),
+      ap (λ (m : Meeting). sets (s .args .out .now) (s .args .at) (rowBy (s .args .i) (s .args .j) m)) met,
+    )
+
+pub put-row-spec : {M : Type 1} → statement M
+put-row-spec =
+    tie.close
+    (tie.spec
+    meet-requires
+    enum-known-p
+    write-row-requires
+    same-length
+    returns
+    enum-told
+    write-row-requires-2
+    same-length-2
+    returns-2
+    enum-told-2
+    returns-3
+    enum-told-3
+    returns-4)

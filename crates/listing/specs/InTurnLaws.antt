@@ -1,0 +1,101 @@
+-- The laws of things in turn. To cite:
+--   turn-more             one more of them, counted as the code does
+--   first-stays           a refusal that is found stays the first
+--   first-none, none-first   no refusal is found exactly where there is none
+--   length-grows, length-most, length-sum, length-below   how long lists are one after another
+--   sum-same, sum-none, sum-shift, sum-most, sum-later    sums
+-- Assumes nothing.
+use mathlib.Core.Path.{_≡_, refl, sym, ap, ap₂, _∙_}
+use mathlib.Core.List.{List}
+use Prim.Native.Nat.{ℕ, zero, suc, _+_, _-_, _*_, _/_, _≤_, _<_}
+use native.Mathlib.Numerals.{add-one}
+use native.Mathlib.Decide.{le-ind}
+use native.Mathlib.Omega.{arith}
+use native.Mathlib.Nat.{add-zero, add-suc, mul-suc, suc-mul, add-mul}
+use lib.IntN.{ℤ, pos}
+use lib.ListN.{length, length-append}
+use Rattle.whole.specs.Tests.{ne-eqZ, eq-eqZ}
+use Rattle.sheet.specs.AnswersLaws.{or-zero}
+use Rattle.listing.specs.InTurn.{inTurn, allOf, sumOf, firstOf}
+
+pub turn-more : {A : Type 0} (join : A → A → A) (start : A) (f : ℕ → A) (n : ℕ)
+    → inTurn join start f (n + 1) ≡ join (inTurn join start f n) (f n)
+unfolding inTurn
+turn-more join start f n = ap (inTurn join start f) (add-one n)
+
+-- ---- the first refusal
+
+module _ (f : ℕ → ℤ) where
+  pub first-stays : (n m : ℕ) → n ≤ m → (firstOf f n ≡ pos 0 → ⊥) → firstOf f m ≡ firstOf f n
+  unfolding inTurn
+  first-stays n m h d = le-ind (λ k. firstOf f k ≡ firstOf f n) refl (λ k _ e. step k e) m h
+    where
+      step : (k : ℕ) → firstOf f k ≡ firstOf f n → firstOf f (suc k) ≡ firstOf f n
+      step k e = let g = ne-eqZ {a = firstOf f k} {b = pos 0} (λ z. d (sym e ∙ z)) in simp g e
+
+  pub first-none : (n : ℕ) → ((i : ℕ) → i < n → f i ≡ pos 0) → firstOf f n ≡ pos 0
+  unfolding inTurn
+  first-none zero h = refl
+  first-none (suc n) h = simp (eq-eqZ (first-none n (λ i k. h i (omega arith)))) (h n (omega arith))
+
+  pub none-first : (n : ℕ) → firstOf f n ≡ pos 0 → (i : ℕ) → i < n → f i ≡ pos 0
+  unfolding inTurn
+  none-first n z i h =
+      ap f refl ∙ or-zero (firstOf f i) (f i) (front (suc i) h) .1
+    where
+      front : (k : ℕ) → k ≤ n → firstOf f k ≡ pos 0
+      front k h = le-ind (λ m. firstOf f m ≡ pos 0 → firstOf f k ≡ pos 0) (λ e. e) (λ m _ g e. g (or-zero (firstOf f m) (f m) e .0)) n h z
+
+-- ---- lists one after another
+
+module _ (f : ℕ → List ℤ) where
+  pub length-grows : (n m : ℕ) → n ≤ m → length (allOf f n) ≤ length (allOf f m)
+  unfolding inTurn
+  length-grows n m h = le-ind (λ k. length (allOf f n) ≤ length (allOf f k)) (omega arith) (λ k _ e. simp length-append (omega arith)) m h
+
+  pub length-most : (w : ℕ) → ((k : ℕ) → length (f k) ≤ w) → (n : ℕ) → length (allOf f n) ≤ n * w
+  unfolding inTurn
+  length-most w h zero = omega arith
+  length-most w h (suc n) = simp (length-append, suc-mul) (omega (arith, h n, length-most w h n))
+
+-- ---- sums
+
+pub sum-same : (f g : ℕ → ℕ) (n : ℕ) → ((i : ℕ) → i < n → f i ≡ g i) → sumOf f n ≡ sumOf g n
+unfolding inTurn
+sum-same f g zero h = refl
+sum-same f g (suc n) h = ap₂ _+_ (sum-same f g n (λ i k. h i (omega arith))) (h n (omega arith))
+
+-- the lengths of lists one after another, each w for each that is counted
+pub length-sum : (f : ℕ → List ℤ) (g : ℕ → ℕ) (w n : ℕ) → ((i : ℕ) → i < n → length (f i) ≡ g i * w) → length (allOf f n) ≡ sumOf g n * w
+unfolding inTurn
+length-sum f g w zero h = omega arith
+length-sum f g w (suc n) h = simp (length-append, add-mul, h n (omega arith), length-sum f g w n (λ i k. h i (omega arith)))
+
+pub sum-none : (f : ℕ → ℕ) (n : ℕ) → ((i : ℕ) → i < n → f i ≡ 0) → sumOf f n ≡ 0
+unfolding inTurn
+sum-none f zero h = refl
+sum-none f (suc n) h = omega (arith, sum-none f n (λ i k. h i (omega arith)), h n (omega arith))
+
+pub sum-shift : (f : ℕ → ℕ) (a n : ℕ) → sumOf f (a + n) ≡ sumOf f a + sumOf (λ k. f (a + k)) n
+unfolding inTurn
+sum-shift f a zero = ap (sumOf f) (add-zero a) ∙ omega arith
+sum-shift f a (suc n) = ap (sumOf f) (add-suc a n) ∙ omega (arith, sum-shift f a n)
+
+pub sum-most : (f : ℕ → ℕ) (w : ℕ) → ((k : ℕ) → f k ≤ w) → (n : ℕ) → sumOf f n ≤ n * w
+unfolding inTurn
+sum-most f w h zero = omega arith
+sum-most f w h (suc n) = simp suc-mul (omega (arith, h n, sum-most f w h n))
+
+pub length-below : (f : ℕ → List ℤ) (g : ℕ → ℕ) (w n : ℕ) → ((i : ℕ) → length (f i) ≤ g i * w) → length (allOf f n) ≤ sumOf g n * w
+unfolding inTurn
+length-below f g w zero h = omega arith
+length-below f g w (suc n) h = simp (length-append, add-mul) (omega (arith, h n, length-below f g w n h))
+
+-- n - 1, n - 2, .. down to 0 add up to half of n n - n
+pub sum-later : (n : ℕ) → sumOf (λ i. n - (i + 1)) n ≡ (n * n - n) / 2
+unfolding inTurn
+sum-later n = let e = upto n (omega arith) in omega arith
+  where
+    upto : (k : ℕ) → k ≤ n → sumOf (λ i. n - (i + 1)) k + sumOf (λ i. n - (i + 1)) k + k * k + k ≡ n * k + n * k
+    upto zero h = omega arith
+    upto (suc k) h = let e = upto k (omega arith) in simp (mul-suc, suc-mul) (omega arith)

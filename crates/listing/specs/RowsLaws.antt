@@ -1,0 +1,184 @@
+-- The laws of rows. To cite:
+--   meetingBy, met-by      what the kernel's answer says, as the paper's
+--   rowsBefore, rows-none, rows-more, rows-room   the rows of object i with the later ones before j, as the code goes
+--   counts-none, counts-more, counts-most         the same, counted
+--   rowsFirst, first-rows-none, .., first-counts-most   the rows of the objects before i, and their number
+--   square-most, square-least                     the square of a count fits, and is not less than it
+--   row-most, rows-with-most, rows-most           how long rows can be
+--   length-rows-with, length-rows   the rows are as many as the pairs that share something
+--   limits-with, limits-all   refusal 12 is not given
+-- Assumes nothing.
+use mathlib.Core.Path.{_≡_, refl, sym, ap, _∙_}
+use mathlib.Core.Bool.{Bool, true, false, cond, _&&_}
+use mathlib.Core.List.{List, [], _∷_, _++_}
+use Prim.Native.Nat.{ℕ, zero, suc, _+_, _-_, _*_, _/_, _≤_, _<_}
+use native.Mathlib.Nat.{le-trans, mul-le-mul, le-mul-of-pos-right}
+use native.Mathlib.Omega.{arith}
+use lib.Dec.{ltb}
+use lib.IntN.{ℤ, pos}
+use lib.ListN.{length, length-append}
+use borrow.Author.Tests.{lt-ltb, le-ltb}
+use Rattle.sheet.specs.declared.Crossing.{Crossing}
+use Rattle.sheet.specs.declared.Crossing.the-variants as crossing
+use Rattle.sheet.specs.Limits.{most}
+use Rattle.sheet.specs.Points.{numbers}
+use Rattle.sheet.specs.Answers.{crossingSays, meetingNumbers}
+use Rattle.sheet.specs.AnswersLaws.{point-one}
+use Rattle.sheet.specs.Crossing.{Meeting, none, point, many, limitsRefusal}
+use Rattle.sheet.specs.CrossingLaws.{crossing-limits}
+use Rattle.listing.specs.InTurn.{inTurn, allOf, sumOf}
+use Rattle.listing.specs.InTurnLaws.{turn-more, first-none, length-grows, length-most, length-sum, length-below, sum-shift, sum-none, sum-most, sum-later}
+use Rattle.listing.specs.Lists.{countOf}
+use Rattle.listing.specs.ListsLaws.{Listable}
+use Rattle.listing.specs.Rows.{rowWidth, meetingOf, rowBy, rowOf, laterOf, rowsWith, rowsOf, isSome, pairCount, sharingWith, sharing, limitsWith, limitsOf}
+
+-- ---- the square of a count
+
+pub square-most : {n : ℕ} → n ≤ most → n * n ≤ most * most
+square-most h = mul-le-mul h h
+
+pub square-least : (n : ℕ) → n ≤ n * n
+square-least zero = omega arith
+square-least (suc n) = le-mul-of-pos-right (suc n) (omega arith)
+
+-- ---- one pair
+
+-- what the kernel's answer says; of accepted objects it never refuses
+abbrev pub meetingBy : Crossing → Meeting
+meetingBy crossing.Nothing = none
+meetingBy (crossing.Once p) = point p
+meetingBy crossing.Many = many
+meetingBy (crossing.Refused n) = none
+
+pub met-by : (r : Crossing) (m : Meeting) → crossingSays r ≡ pos 0 ∷ meetingNumbers m → meetingBy r ≡ m
+met-by crossing.Nothing none e = refl
+met-by crossing.Nothing (point p) e = let z : _≡_ {A = ℕ} 0 1 = cc in absurd (omega arith)
+met-by crossing.Nothing many e = let z : _≡_ {A = ℕ} 0 2 = cc in absurd (omega arith)
+met-by (crossing.Once p) none e = let z : _≡_ {A = ℕ} 1 0 = cc in absurd (omega arith)
+met-by (crossing.Once p) (point q) e = let e1 : numbers p ≡ numbers q = cc in ap point (point-one p q e1)
+met-by (crossing.Once p) many e = let z : _≡_ {A = ℕ} 1 2 = cc in absurd (omega arith)
+met-by crossing.Many none e = let z : _≡_ {A = ℕ} 2 0 = cc in absurd (omega arith)
+met-by crossing.Many (point p) e = let z : _≡_ {A = ℕ} 2 1 = cc in absurd (omega arith)
+met-by crossing.Many many e = refl
+met-by (crossing.Refused n) none e = let z : _≡_ {A = ℕ} 0 1 = cc in absurd (omega arith)
+met-by (crossing.Refused n) (point p) e = let z : _≡_ {A = ℕ} 0 1 = cc in absurd (omega arith)
+met-by (crossing.Refused n) many e = let z : _≡_ {A = ℕ} 0 1 = cc in absurd (omega arith)
+
+length-row : (i j : ℕ) (m : Meeting) → length (rowBy i j m) ≡ cond (isSome m) 1 0 * rowWidth
+length-row i j none = refl
+length-row i j (point e) = refl
+length-row i j many = refl
+
+pub row-most : (i j : ℕ) (m : Meeting) → length (rowBy i j m) ≤ rowWidth
+row-most i j none = omega arith
+row-most i j (point e) = omega arith
+row-most i j many = omega arith
+
+-- ---- object i with the later ones before j, as the code counts them
+
+module _ (l : List ℤ) (i : ℕ) where
+  abbrev row : ℕ → List ℤ
+  row k = rowOf l i (i + 1 + k)
+
+  abbrev pub rowsBefore : ℕ → List ℤ
+  rowsBefore j = allOf row (j - (i + 1))
+
+  pub rows-none : rowsBefore (i + 1) ≡ []
+  unfolding inTurn
+  rows-none = let e : i + 1 - (i + 1) ≡ 0 = omega arith in ap (allOf row) e
+
+  pub rows-more : (j : ℕ) → i < j → rowsBefore (j + 1) ≡ rowsBefore j ++ rowOf l i j
+  rows-more j h =
+      let e : j + 1 - (i + 1) ≡ j - (i + 1) + 1 = omega arith in
+      let f : i + 1 + (j - (i + 1)) ≡ j = omega arith in
+      ap (allOf row) e ∙ turn-more _++_ [] row (j - (i + 1)) ∙ ap (λ (k : ℕ). rowsBefore j ++ rowOf l i k) f
+
+  pub rows-room : (j : ℕ) → i < j → j < countOf l → length (rowsBefore j) + length (rowOf l i j) ≤ length (rowsWith l i)
+  rows-room j h k =
+      let g = length-grows row (j + 1 - (i + 1)) (laterOf l i) (omega arith) in
+      let e = ap length (rows-more j h) ∙ length-append (rowsBefore j) (rowOf l i j) in
+      omega arith
+
+  pub rows-with-most : length (rowsWith l i) ≤ laterOf l i * rowWidth
+  rows-with-most = length-most row rowWidth (λ k. row-most i (i + 1 + k) (meetingOf l i (i + 1 + k))) (laterOf l i)
+
+  -- no earlier one is counted
+  count-early : (j : ℕ) → j < i + 1 → pairCount l i j ≡ 0
+  count-early j h = simp (le-ltb i j (omega arith))
+
+  count-later : (j : ℕ) → i < j → pairCount l i j ≡ cond (isSome (meetingOf l i j)) 1 0
+  count-later j h = simp (lt-ltb i j h)
+
+  pub counts-none : sumOf (pairCount l i) (i + 1) ≡ 0
+  counts-none = sum-none (pairCount l i) (i + 1) count-early
+
+  pub counts-more : (j : ℕ) → i < j → sumOf (pairCount l i) (j + 1) ≡ sumOf (pairCount l i) j + cond (isSome (meetingOf l i j)) 1 0
+  counts-more j h = turn-more _+_ 0 (pairCount l i) j ∙ ap (λ (k : ℕ). sumOf (pairCount l i) j + k) (count-later j h)
+
+  pub counts-most : (n : ℕ) → sumOf (pairCount l i) n ≤ n
+  counts-most n = let h = sum-most (pairCount l i) 1 (λ j. flag (ltb i j && isSome (meetingOf l i j))) n in omega arith
+    where
+      flag : (t : Bool) → cond t 1 0 ≤ 1
+      flag true = omega arith
+      flag false = omega arith
+
+  pub length-rows-with : i < countOf l → length (rowsWith l i) ≡ sharingWith l i * rowWidth
+  length-rows-with h =
+      let e : i + 1 + laterOf l i ≡ countOf l = omega arith in
+      let s = sum-shift (pairCount l i) (i + 1) (laterOf l i) ∙ ap (λ (k : ℕ). k + sumOf (λ k. pairCount l i (i + 1 + k)) (laterOf l i)) counts-none in
+      length-sum row (λ k. pairCount l i (i + 1 + k)) rowWidth (laterOf l i)
+      (λ k _. length-row i (i + 1 + k) (meetingOf l i (i + 1 + k)) ∙ sym (ap (λ (c : ℕ). c * rowWidth) (count-later (i + 1 + k) (omega arith))))
+      ∙ ap (λ (c : ℕ). c * rowWidth) (sym (sym (ap (sumOf (pairCount l i)) e) ∙ s ∙ omega arith))
+
+-- ---- the objects before i, each with all later ones
+
+module _ (l : List ℤ) where
+  abbrev pub rowsFirst : ℕ → List ℤ
+  rowsFirst n = allOf (λ i. rowsWith l i) n
+
+  pub first-rows-none : rowsFirst 0 ≡ []
+  unfolding inTurn
+  first-rows-none = refl
+
+  pub first-rows-more : (i : ℕ) → rowsFirst (i + 1) ≡ rowsFirst i ++ rowsWith l i
+  first-rows-more i = turn-more _++_ [] (λ i. rowsWith l i) i
+
+  pub first-rows-room : (i : ℕ) → i < countOf l → length (rowsFirst i) + length (rowsWith l i) ≤ length (rowsOf l)
+  first-rows-room i h =
+      let g = length-grows (λ i. rowsWith l i) (i + 1) (countOf l) (omega arith) in
+      let e = ap length (first-rows-more i) ∙ length-append (rowsFirst i) (rowsWith l i) in
+      omega arith
+
+  pub first-counts-none : sumOf (λ i. sharingWith l i) 0 ≡ 0
+  unfolding inTurn
+  first-counts-none = refl
+
+  pub first-counts-more : (i : ℕ) → sumOf (λ i. sharingWith l i) (i + 1) ≡ sumOf (λ i. sharingWith l i) i + sharingWith l i
+  first-counts-more i = turn-more _+_ 0 (λ i. sharingWith l i) i
+
+  pub first-counts-most : countOf l ≤ most → (n : ℕ) → sumOf (λ i. sharingWith l i) n ≤ n * most
+  first-counts-most h n = sum-most (λ i. sharingWith l i) most (λ i. le-trans (counts-most l i (countOf l)) h) n
+
+  pub length-rows : length (rowsOf l) ≡ sharing l * rowWidth
+  length-rows = length-sum (λ i. rowsWith l i) (λ i. sharingWith l i) rowWidth (countOf l) (λ i h. length-rows-with l i h)
+
+  -- no more than every pair
+  pub rows-most : length (rowsOf l) ≤ (countOf l * countOf l - countOf l) / 2 * rowWidth
+  rows-most =
+      let h = length-below (λ i. rowsWith l i) (λ i. laterOf l i) rowWidth (countOf l) (λ i. rows-with-most l i) in
+      let e = sum-later (countOf l) in
+      omega arith
+
+-- ---- "12" is never given
+
+module _ (l : List ℤ) (h : Listable l) where
+  limits-pair : (i j : ℕ) → i < countOf l → j < countOf l → limitsRefusal (meetingOf l i j) ≡ pos 0
+  unfolding meetingOf
+  limits-pair i j a b = crossing-limits (h .each i a) (h .each j b)
+
+  pub limits-with : (i : ℕ) → i < countOf l → limitsWith l i ≡ pos 0
+  limits-with i a =
+      first-none (λ k. limitsRefusal (meetingOf l i (i + 1 + k))) (laterOf l i) (λ k b. limits-pair i (i + 1 + k) a (omega arith))
+
+  pub limits-all : limitsOf l ≡ pos 0
+  limits-all = first-none (λ i. limitsWith l i) (countOf l) (λ i a. limits-with i a)

@@ -1,0 +1,65 @@
+// The whole list: the rows of object 0, of object 1, .., one after another.
+use crate::OBJECT_WIDTH;
+use crate::ROW_WIDTH;
+use crate::rows::count_with;
+use crate::rows::put_rows_with;
+ghost use mathlib.Core.Path.{_≡_};
+ghost use Prim.Native.Nat.{_≤_};
+ghost use lib.ListN.{length};
+ghost use lib.Seq.{sets};
+ghost use Rattle.listing.specs.ListsLaws.{Listable};
+ghost use Rattle.listing.specs.Rows.{rowsOf, sharing};
+ghost use Rattle.listing.specs.ListingLaws.{lacking};
+
+// All rows, at the front of the lent list. Gives the place after them.
+pub fn put_rows(list: &[i64], out: &mut [i64]) -> usize
+    requires { ⌜ Listable (now list) ⌝ }
+    requires { ⌜ length (rowsOf (now list)) ≤ length (now out) ⌝ }
+    ensures { λ r. ⌜ r ≡ length (rowsOf (now (list .entry))) ⌝ }
+    ensures { λ r. ⌜ now (out .exit) ≡ sets (now (out .entry)) 0 (rowsOf (now (list .entry))) ⌝ }
+{
+    let n = list.len() / OBJECT_WIDTH;
+    let mut next = 0;
+    let mut i = 0;
+    while i < n {
+        next = put_rows_with(list, i, out, next);
+        i += 1;
+    }
+    next
+}
+
+// How many pairs share something.
+fn count_rows(list: &[i64]) -> usize
+    requires { ⌜ Listable (now list) ⌝ }
+    ensures { λ r. ⌜ r ≡ sharing (now (list .entry)) ⌝ }
+{
+    let n = list.len() / OBJECT_WIDTH;
+    let mut count = 0;
+    let mut i = 0;
+    while i < n {
+        let one = count_with(list, i);
+        count += one;
+        i += 1;
+    }
+    count
+}
+
+// 0 where all rows have room, else the length that they need. Where there is room for every pair, nothing is counted.
+pub fn lacking_room(list: &[i64], room: usize) -> usize
+    requires { ⌜ Listable (now list) ⌝ }
+    ensures { λ r. ⌜ r ≡ lacking (sharing (now (list .entry))) room ⌝ }
+{
+    let n = list.len() / OBJECT_WIDTH;
+    let square = n * n;
+    let pairs = (square - n) / 2;
+    let every = pairs * ROW_WIDTH;
+    if every <= room {
+        return 0;
+    }
+    let count = count_rows(list);
+    let need = count * ROW_WIDTH;
+    if need <= room {
+        return 0;
+    }
+    need
+}

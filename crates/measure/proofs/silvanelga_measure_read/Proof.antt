@@ -1,0 +1,23 @@
+use mathlib.Core.Path.{_∙_, ap}
+use Rattle.whole.specs.Tests.{out-ok}
+use Rattle.store.specs.declared.Read.{Read}
+use borrow.Author.Needs.{needs}
+use Rattle.measure.proofs.silvanelga_measure_read.Statement.{statement}
+use Rattle.measure.proofs.silvanelga_measure_read.Tie as tie
+use Rattle.measure.proofs.silvanelga_measure_read.Reads as reads
+use Rattle.measure.proofs.silvanelga_measure_read.Lts as lts
+use Rattle.store.proofs.read_drawing.Reads as read-drawing-reads
+
+read-drawing-requires : tie.Need-read-drawing-requires
+read-drawing-requires c κs = search needs
+
+same-length : tie.Need-same-length
+same-length c = search needs
+
+returns : tie.Need-returns
+returns c =
+    let r = c .before .before .read-drawing in
+    (out-ok (r .result .refusal) (c .struct-told .given .0 .1) ∙ ap (λ (z : Read). z .refusal) (r .ensures .0), r .ensures .1)
+
+pub silvanelga-measure-read-spec : {M : Type 1} → statement M
+silvanelga-measure-read-spec = tie.close (tie.spec read-drawing-requires same-length returns)

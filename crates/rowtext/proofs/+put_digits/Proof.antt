@@ -1,0 +1,143 @@
+-- `put_digits` meets its contract: the digits before the last one are those of a tenth of the number. The measure is the number.
+use mathlib.Core.Path.{refl, sym, _∙_, ap, subst}
+use mathlib.Core.List.{[], _∷_}
+use native.Mathlib.Nat.{mod-lt, div-lt-self}
+use native.Mathlib.Omega.{arith}
+use lib.ListN.{length, length-append}
+use Rattle.rowtext.specs.Text.{zeroDigit, digits}
+use Rattle.rowtext.specs.TextLaws.{digits-one, digits-more}
+use Rattle.rowtext.specs.WroteLaws.{wrote-more, wrote-length, wrote-as}
+use Prim.Native.Nat.{ℕ, _+_, _/_, _%_, _<_}
+use borrow.Fn.Kinds.{In}
+use borrow.Fn.PlainCycle.{Measures, is, falls, and}
+use Rattle.rowtext.proofs.put_digits.Reads as put-digits
+use Rattle.rowtext.proofs.put_digits.Kinds as put-digits-kinds
+use Rattle.rowtext.proofs.+put_digits.Lts-put_digits as put-digits-lts
+use Rattle.rowtext.proofs.put_byte.Reads as put-byte-reads
+use Rattle.rowtext.proofs.+put_digits.{statement}
+use Rattle.rowtext.proofs.+put_digits.Tie.{close}
+
+abbrev μ-put-digits : Measures 1 put-digits-kinds.ps ℕ
+μ-put-digits κs a = a .0
+
+abbrev put-digits-at : ℕ → In 1 put-digits-kinds.ps
+put-digits-at t =
+    and 1 put-digits-kinds.ps (is 1 put-digits-kinds.ps μ-put-digits t) put-digits.Pre
+
+abbrev put-digits-below : ℕ → In 1 put-digits-kinds.ps
+put-digits-below t =
+    and 1 put-digits-kinds.ps (falls 1 put-digits-kinds.ps _<_ μ-put-digits t) put-digits.Pre
+
+put-digits-cast-last : (t : ℕ) → put-digits-lts.Need-cast-last (
+  put-byte-reads.Asked,
+  put-byte-reads.Learnt,
+  put-digits-below t,
+  put-digits.Post,
+) (put-digits-at t) put-digits.Post
+put-digits-cast-last t c = omega (arith, mod-lt (c .before .args .n) {m = 10} (omega arith))
+
+put-digits-add-last : (t : ℕ) → put-digits-lts.Need-add-last (
+  put-byte-reads.Asked,
+  put-byte-reads.Learnt,
+  put-digits-below t,
+  put-digits.Post,
+) (put-digits-at t) put-digits.Post
+put-digits-add-last t c = omega (arith, mod-lt (c .before .args .n) {m = 10} (omega arith))
+
+put-digits-put-byte-requires : (t : ℕ) → put-digits-lts.Need-put-byte-requires (
+  put-byte-reads.Asked,
+  put-byte-reads.Learnt,
+  put-digits-below t,
+  put-digits.Post,
+) (put-digits-at t) put-digits.Post
+put-digits-put-byte-requires t c κs =
+    let n = c .before .before .before .args .n in
+    omega (arith, ap length (digits-one n (c .before .if1 .taken)), c .before .before .before .pre .1)
+
+put-digits-same-length : (t : ℕ) → put-digits-lts.Need-same-length (
+  put-byte-reads.Asked,
+  put-byte-reads.Learnt,
+  put-digits-below t,
+  put-digits.Post,
+) (put-digits-at t) put-digits.Post
+put-digits-same-length t c = c .before .before .put-byte .kept .1 .0
+
+put-digits-returns : (t : ℕ) → put-digits-lts.Need-returns (
+  put-byte-reads.Asked,
+  put-byte-reads.Learnt,
+  put-digits-below t,
+  put-digits.Post,
+) (put-digits-at t) put-digits.Post
+put-digits-returns t c =
+    let n = c .before .before .before .before .before .before .args .n in
+    wrote-as (c .before .before .put-byte .ensures) refl (sym (digits-one n (c .before .before .before .before .if1 .taken)))
+
+put-digits-put-digits-requires : (t : ℕ) → put-digits-lts.Need-put-digits-requires (
+  put-byte-reads.Asked,
+  put-byte-reads.Learnt,
+  put-digits-below t,
+  put-digits.Post,
+) (put-digits-at t) put-digits.Post
+put-digits-put-digits-requires t c κs =
+    let s = c .before .before .before in
+    let n = s .args .n in (
+      subst (λ (m : ℕ). n / 10 < m) (s .pre .0) (div-lt-self (omega arith) (omega arith)),
+      omega (arith, ap length (digits-more n (c .before .if1 .left)), length-append (digits (n / 10)) ((zeroDigit + n % 10) ∷ []), s .pre .1),
+    )
+
+put-digits-put-byte-requires-2 : (t : ℕ) → put-digits-lts.Need-put-byte-requires-2 (
+  put-byte-reads.Asked,
+  put-byte-reads.Learnt,
+  put-digits-below t,
+  put-digits.Post,
+) (put-digits-at t) put-digits.Post
+put-digits-put-byte-requires-2 t c κs =
+    let s = c .before .before .before .before .before .before .before in
+    let n = s .args .n in
+    let w = c .before .before .before .put-digits .ensures in
+    omega (
+      arith,
+      ap length (digits-more n (c .before .before .before .before .before .if1 .left)),
+      length-append (digits (n / 10)) ((zeroDigit + n % 10) ∷ []),
+      s .pre .1,
+      w .place,
+      wrote-length w,
+    )
+
+put-digits-same-length-2 : (t : ℕ) → put-digits-lts.Need-same-length-2 (
+  put-byte-reads.Asked,
+  put-byte-reads.Learnt,
+  put-digits-below t,
+  put-digits.Post,
+) (put-digits-at t) put-digits.Post
+put-digits-same-length-2 t c = c .before .before .put-byte2 .kept .1 .0 ∙ c .before .before .before .before .before .before .put-digits .kept .1 .0
+
+put-digits-returns-2 : (t : ℕ) → put-digits-lts.Need-returns-2 (
+  put-byte-reads.Asked,
+  put-byte-reads.Learnt,
+  put-digits-below t,
+  put-digits.Post,
+) (put-digits-at t) put-digits.Post
+put-digits-returns-2 t c =
+    let n = c .before .before .before .before .before .before .before .before .before .before .args .n in
+    wrote-as (wrote-more (c .before .before .before .before .before .before .put-digits .ensures) (c .before .before .put-byte2 .ensures)) refl
+    (sym (digits-more n (c .before .before .before .before .before .before .before .before .if1 .left)))
+
+pub +put-digits-spec : {M : Type 1} → statement M
++put-digits-spec = close μ-put-digits λ t. put-digits-lts.spec (
+  put-byte-reads.Asked,
+  put-byte-reads.Learnt,
+  put-digits-below t,
+  put-digits.Post,
+)
+    (put-digits-at t)
+    put-digits.Post
+    (put-digits-cast-last t)
+    (put-digits-add-last t)
+    (put-digits-put-byte-requires t)
+    (put-digits-same-length t)
+    (put-digits-returns t)
+    (put-digits-put-digits-requires t)
+    (put-digits-put-byte-requires-2 t)
+    (put-digits-same-length-2 t)
+    (put-digits-returns-2 t)

@@ -1,0 +1,68 @@
+-- `put_all` meets its contract. The invariant: the first k rows are written, each in the room of a row.
+use borrow.Author.Needs.{needs}
+use mathlib.Core.Path.{_≡_, refl, sym, ap}
+use Prim.Native.Nat.{_*_, _-_, _≤_}
+use native.Mathlib.Omega.{arith}
+use Rattle.rowtext.specs.Text.{rowsTo}
+use Rattle.rowtext.specs.TextLaws.{rows-more}
+use Rattle.rowtext.specs.Put.{Wrote, rowMost}
+use Rattle.rowtext.specs.WroteLaws.{wrote-more, wrote-as, wrote-length}
+use Rattle.rowtext.proofs.put_all.Statement.{statement}
+use Rattle.rowtext.proofs.put_all.Tie as tie
+
+abbrev Inv-loop : tie.InvT-loop
+Inv-loop list rows out₀ k₀ next₀ out k next =
+    (k ≤ rows) × ((next ≤ k * rowMost) × Wrote out₀ out 0 next (rowsTo list k))
+
+abbrev μ-loop : tie.MeasureT-loop
+μ-loop list rows out₀ k₀ next₀ out k next = rows - k
+
+loop-holds : tie.Need-loop-holds Inv-loop μ-loop
+unfolding rowsTo
+loop-holds c = search needs
+
+mul-from : tie.Need-mul-from Inv-loop μ-loop
+mul-from c = search needs
+
+put-row-requires : tie.Need-put-row-requires Inv-loop μ-loop
+put-row-requires c κs =
+    let inv = c .before .before .loop .inv in
+    (omega arith, omega (arith, wrote-length (inv .1 .1)))
+
+add-k : tie.Need-add-k Inv-loop μ-loop
+add-k c = search needs
+
+loop-less : tie.Need-loop-less Inv-loop μ-loop
+loop-less c = search needs
+
+loop-again : tie.Need-loop-again Inv-loop μ-loop
+loop-again c =
+    let s = c .before .before .before .before .before .before .before in
+    let inv = c .before .before .before .before .before .loop .inv in
+    let k = c .before .before .before .before .before .loop .k in
+    let row = c .before .before .put-row .ensures in
+    (omega arith, (omega (arith, row .1), wrote-as (wrote-more (inv .1 .1) (row .0)) refl (sym (rows-more (s .args .list .now) k))))
+
+same-length : tie.Need-same-length Inv-loop μ-loop
+same-length c = wrote-length (c .before .loop .inv .1 .1)
+
+returns : tie.Need-returns Inv-loop μ-loop
+returns c =
+    let s = c .before .before .before in
+    let done : c .before .loop .k ≡ s .args .rows = omega arith in
+    wrote-as (c .before .loop .inv .1 .1) refl (ap (rowsTo (s .args .list .now)) done)
+
+pub put-all-spec : {M : Type 1} → statement M
+put-all-spec =
+    tie.close
+    (tie.spec
+    Inv-loop
+    μ-loop
+    loop-holds
+    mul-from
+    put-row-requires
+    add-k
+    loop-less
+    loop-again
+    same-length
+    returns)

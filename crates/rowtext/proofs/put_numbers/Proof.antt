@@ -1,0 +1,88 @@
+-- `put_numbers` meets its contract. The invariant: the first i numbers are written, each in the room of a field.
+use borrow.Author.Needs.{needs}
+use mathlib.Core.Path.{_≡_, refl, sym, ap}
+use Prim.Native.Nat.{ℕ, _+_, _*_, _-_, _≤_}
+use native.Mathlib.Omega.{arith}
+use lib.IntN.{pos}
+use lib.ListN.{take, drop, getD}
+use Rattle.whole.specs.Tests.{out-ok}
+use Rattle.rowtext.specs.Text.{numbers, field}
+use Rattle.rowtext.specs.TextLaws.{numbers-one-more}
+use Rattle.rowtext.specs.Put.{Wrote, fieldMost}
+use Rattle.rowtext.specs.WroteLaws.{wrote-more, wrote-as, wrote-length}
+use Rattle.rowtext.proofs.put_numbers.Statement.{statement}
+use Rattle.rowtext.proofs.put_numbers.Tie as tie
+
+abbrev Inv-loop : tie.InvT-loop
+Inv-loop list from count out₀ at i₀ next₀ out i next =
+    (i ≤ count) × ((next ≤ at + i * fieldMost) × Wrote out₀ out at next (numbers (take i (drop from list))))
+
+abbrev μ-loop : tie.MeasureT-loop
+μ-loop list from count out₀ at i₀ next₀ out i next = count - i
+
+loop-holds : tie.Need-loop-holds Inv-loop μ-loop
+unfolding numbers
+loop-holds c = search needs
+
+add-n : tie.Need-add-n Inv-loop μ-loop
+add-n c = search needs
+
+mul-n : tie.Need-mul-n Inv-loop μ-loop
+mul-n c = search needs
+
+shared-slice-copy-out-n : tie.Need-shared-slice-copy-out-n Inv-loop μ-loop
+shared-slice-copy-out-n c = search needs
+
+put-field-requires : tie.Need-put-field-requires Inv-loop μ-loop
+put-field-requires c κs =
+    let inv = c .before .before .before .loop .inv in
+    omega (arith, wrote-length (inv .1 .1))
+
+add-i : tie.Need-add-i Inv-loop μ-loop
+add-i c = search needs
+
+loop-less : tie.Need-loop-less Inv-loop μ-loop
+loop-less c = search needs
+
+loop-again : tie.Need-loop-again Inv-loop μ-loop
+loop-again c =
+    let s = c .before .before .before .before .before .before .before .before in
+    let inv = c .before .before .before .before .before .before .loop .inv in
+    let l = s .args .list .now in
+    let from = s .args .from in
+    let i = c .before .before .before .before .before .before .loop .i in
+    let put = c .before .before .put-field .ensures in
+    let n = ap field (out-ok (getD l (from + i) (pos 0)) (c .before .before .before .before .n .given)) in (
+      omega arith,
+      (
+        omega (arith, put .1),
+        wrote-as (wrote-more (inv .1 .1) (wrote-as (put .0) refl n)) refl (sym (numbers-one-more l from i (omega arith))),
+      ),
+    )
+
+same-length : tie.Need-same-length Inv-loop μ-loop
+same-length c = wrote-length (c .before .loop .inv .1 .1)
+
+returns : tie.Need-returns Inv-loop μ-loop
+returns c =
+    let s = c .before .before .before in
+    let inv = c .before .loop .inv in
+    let done : c .before .loop .i ≡ s .args .count = omega arith in
+    (wrote-as (inv .1 .1) refl (ap (λ (k : ℕ). numbers (take k (drop (s .args .from) (s .args .list .now)))) done), omega arith)
+
+pub put-numbers-spec : {M : Type 1} → statement M
+put-numbers-spec =
+    tie.close
+    (tie.spec
+    Inv-loop
+    μ-loop
+    loop-holds
+    add-n
+    mul-n
+    shared-slice-copy-out-n
+    put-field-requires
+    add-i
+    loop-less
+    loop-again
+    same-length
+    returns)

@@ -1,0 +1,39 @@
+-- The listing that document 01 prints whole, proved of the definitions.
+use mathlib.Core.Path.{_≡_, refl}
+use mathlib.Core.List.{List, [], _∷_, _++_}
+use Prim.Native.Nat.{ℕ}
+use lib.IntN.{ℤ, pos, negsuc}
+use Rattle.rowtext.specs.Text.{digitsTo, digits, signed, numbers, rowText, rowsTo, rowsText, objectsWord, rowsWord, refusedWord, countLine}
+
+-- 0 1 point 0 4 0 2 3
+rowOne : List ℤ
+rowOne = pos 0 ∷ pos 1 ∷ pos 1 ∷ pos 0 ∷ pos 4 ∷ pos 0 ∷ pos 2 ∷ pos 3 ∷ []
+
+-- 0 2 point 2 0 1 0 2
+rowTwo : List ℤ
+rowTwo = pos 0 ∷ pos 2 ∷ pos 1 ∷ pos 2 ∷ pos 0 ∷ pos 1 ∷ pos 0 ∷ pos 2 ∷ []
+
+textOne : List ℕ
+textOne = 48 ∷ 32 ∷ 49 ∷ 32 ∷ 112 ∷ 111 ∷ 105 ∷ 110 ∷ 116 ∷ 32 ∷ 48 ∷ 32 ∷ 52 ∷ 32 ∷ 48 ∷ 32 ∷ 50 ∷ 32 ∷ 51 ∷ 10 ∷ []
+
+textTwo : List ℕ
+textTwo = 48 ∷ 32 ∷ 50 ∷ 32 ∷ 112 ∷ 111 ∷ 105 ∷ 110 ∷ 116 ∷ 32 ∷ 50 ∷ 32 ∷ 48 ∷ 32 ∷ 49 ∷ 32 ∷ 48 ∷ 32 ∷ 50 ∷ 10 ∷ []
+
+pub record Example : Type 0 where
+  one : rowText rowOne ≡ textOne
+  two : rowText rowTwo ≡ textTwo
+  both : rowsText (rowOne ++ rowTwo) ≡ textOne ++ textTwo
+  -- objects 3
+  first : countLine objectsWord (pos 3) ≡ 111 ∷ 98 ∷ 106 ∷ 101 ∷ 99 ∷ 116 ∷ 115 ∷ 32 ∷ 51 ∷ 10 ∷ []
+  -- rows 2
+  last : countLine rowsWord (pos 2) ≡ 114 ∷ 111 ∷ 119 ∷ 115 ∷ 32 ∷ 50 ∷ 10 ∷ []
+  -- refused 14
+  refused : countLine refusedWord (pos 14) ≡ 114 ∷ 101 ∷ 102 ∷ 117 ∷ 115 ∷ 101 ∷ 100 ∷ 32 ∷ 49 ∷ 52 ∷ 10 ∷ []
+  -- 3 4 many
+  many : rowText (pos 3 ∷ pos 4 ∷ pos 2 ∷ pos 0 ∷ pos 0 ∷ pos 0 ∷ pos 0 ∷ pos 0 ∷ []) ≡ 51 ∷ 32 ∷ 52 ∷ 32 ∷ 109 ∷ 97 ∷ 110 ∷ 121 ∷ 10 ∷ []
+  -- -1206
+  below : signed (negsuc 1205) ≡ 45 ∷ 49 ∷ 50 ∷ 48 ∷ 54 ∷ []
+
+pub example : Example
+unfolding digitsTo digits numbers rowText rowsTo rowsText rowOne rowTwo textOne textTwo
+example = record { one = refl; two = refl; both = refl; first = refl; last = refl; refused = refl; many = refl; below = refl }

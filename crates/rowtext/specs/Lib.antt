@@ -1,0 +1,6 @@
+pub mod Text
+pub mod Put
+pub mod TextLaws
+pub mod WroteLaws
+pub mod PutLaws
+pub mod Example

@@ -1,0 +1,118 @@
+use mathlib.Core.Path.{_≡_, sym, _∙_, ap}
+use mathlib.Core.Bool.{Bool, true, false}
+use mathlib.Core.List.{List}
+use Prim.Native.Nat.{ℕ, _%_}
+use native.Mathlib.Omega.{arith}
+use lib.IntN.{pos}
+use lib.ListN.{length}
+use Rattle.whole.specs.Bound.{Within, fits64, w-pos, w-is}
+use Rattle.whole.specs.Tests.{out, out-ok, fits-ok, eq-taken, eq-left}
+use Rattle.sheet.specs.Figure.{Vec}
+use Rattle.screen.specs.Quotient.{float}
+use Rattle.screen.specs.Lists.{width, objectsOf}
+use Rattle.screen.specs.ListsLaws.{list-accepted}
+use Rattle.screen.specs.Extents.{endsOf, extreme, isNone, extentOf}
+use Rattle.screen.specs.ExtentsLaws.{AllSmall, ends-small, from-beyond, no-end, some-end, extreme-within}
+use borrow.Author.Needs.{needs}
+use Rattle.screen.proofs.extents.extent.Statement.{statement}
+use Rattle.screen.proofs.extents.extent.Tie as tie
+
+abbrev ends : tie.Start → List Vec
+ends s = endsOf (objectsOf (s .args .list .now))
+
+all-small : (s : tie.Start) → AllSmall (ends s)
+all-small s = ends-small (objectsOf (s .args .list .now)) (list-accepted (s .args .list .now) (s .pre) .1)
+
+fives : (s : tie.Start) → length (s .args .list .now) % width ≡ 0
+fives s = list-accepted (s .args .list .now) (s .pre) .0
+
+-- there is a standard end
+some : (c : tie.Else1) → isNone (ends (c .before .before)) ≡ false
+some c =
+    let r = c .before .reach in
+    some-end (ends (c .before .before)) (λ z. eq-left {x = r .result} {y = pos 2001} (c .if1 .left) (r .ensures ∙ z))
+
+module _ (c : tie.After-reach4) where
+  abbrev s : tie.Start
+  s = c .before .before .before .before .before
+
+  bound : (up : Bool) (axis : ℕ) → Within 2000 (extreme up axis (ends s))
+  bound up axis = extreme-within up axis (ends s) (all-small s)
+
+  lx : out (c .before .before .before .before .reach .result) ≡ extreme false 0 (ends s)
+  lx =
+      let r = c .before .before .before .before .reach in
+      out-ok (r .result) (r .ok) ∙ r .ensures ∙ from-beyond false 0 (ends s) (all-small s) (some (c .before .before .before))
+
+  ly : out (c .before .before .reach2 .result) ≡ extreme false 1 (ends s)
+  ly =
+      let r = c .before .before .reach2 in
+      out-ok (r .result) (r .ok) ∙ r .ensures ∙ from-beyond false 1 (ends s) (all-small s) (some (c .before .before .before))
+
+  hx : out (c .before .reach3 .result) ≡ extreme true 0 (ends s)
+  hx =
+      let r = c .before .reach3 in
+      out-ok (r .result) (r .ok) ∙ r .ensures ∙ from-beyond true 0 (ends s) (all-small s) (some (c .before .before .before))
+
+  hy : out (c .reach4 .result) ≡ extreme true 1 (ends s)
+  hy =
+      let r = c .reach4 in
+      out-ok (r .result) (r .ok) ∙ r .ensures ∙ from-beyond true 1 (ends s) (all-small s) (some (c .before .before .before))
+
+add-above : tie.Need-add-above
+add-above c = search needs
+
+sub-below : tie.Need-sub-below
+sub-below c = search needs
+
+reach-requires : tie.Need-reach-requires
+reach-requires c κs = (fives c, omega arith)
+
+nothing-requires : tie.Need-nothing-requires
+nothing-requires c κs = search needs
+
+returns : tie.Need-returns
+returns c =
+    let r = c .before .before .reach in
+    let s = c .before .before .before in
+    let top = sym (r .ensures) ∙ eq-taken (fits-ok (r .result) (r .ok)) (fits64 (w-pos 2001) tt) (c .before .if1 .taken) in
+    c .nothing .ensures ∙ sym (ap extentOf (no-end (ends s) (all-small s) top))
+
+reach-requires-2 : tie.Need-reach-requires-2
+reach-requires-2 c κs = (fives (c .before .before), omega arith)
+
+reach-requires-3 : tie.Need-reach-requires-3
+reach-requires-3 c κs = (fives (c .before .before .before), omega arith)
+
+reach-requires-4 : tie.Need-reach-requires-4
+reach-requires-4 c κs = (fives (c .before .before .before .before), omega arith)
+
+around-requires : tie.Need-around-requires
+around-requires c κs =
+    (w-is (lx c) (bound c false 0), w-is (ly c) (bound c false 1), w-is (hx c) (bound c true 0), w-is (hy c) (bound c true 1))
+
+returns-2 : tie.Need-returns-2
+returns-2 c =
+    let e = c .before in
+    let there = some (e .before .before .before) in
+    c .around .ensures
+    ∙ (λ i. record {
+      low = record { x = float (lx e i); y = float (ly e i) };
+      high = record { x = float (hx e i); y = float (hy e i) };
+      none = sym there i;
+    })
+
+pub extent-spec : {M : Type 1} → statement M
+extent-spec =
+    tie.close
+    (tie.spec
+    add-above
+    sub-below
+    reach-requires
+    nothing-requires
+    returns
+    reach-requires-2
+    reach-requires-3
+    reach-requires-4
+    around-requires
+    returns-2)

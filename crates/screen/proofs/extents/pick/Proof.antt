@@ -1,0 +1,29 @@
+use mathlib.Core.Path.{_≡_, sym, _∙_, ap}
+use mathlib.Core.Bool.{Bool, cond, not, _&&_, _||_}
+use lib.Signed.{ltZ}
+use Rattle.whole.specs.Tests.{out, out-is}
+use Rattle.screen.specs.Extents.{beyond}
+use Rattle.screen.proofs.extents.pick.Statement.{statement}
+use Rattle.screen.proofs.extents.pick.Tie as tie
+
+test :
+    (s : tie.Start) →
+    (s .args .up && ltZ (out (s .args .a)) (out (s .args .b))) || (not (s .args .up) && ltZ (out (s .args .b)) (out (s .args .a)))
+    ≡ beyond (s .args .up) (s .args .a) (s .args .b)
+test s =
+    let a = out-is (s .fits .a) in
+    let b = out-is (s .fits .b) in
+    λ i. (s .args .up && ltZ (a i) (b i)) || (not (s .args .up) && ltZ (b i) (a i))
+
+returns : tie.Need-returns
+returns c =
+    let s = c .before in
+    out-is (s .fits .b) ∙ sym (ap (λ (t : Bool). cond t (s .args .b) (s .args .a)) (sym (test s) ∙ c .if1 .taken))
+
+returns-2 : tie.Need-returns-2
+returns-2 c =
+    let s = c .before in
+    out-is (s .fits .a) ∙ sym (ap (λ (t : Bool). cond t (s .args .b) (s .args .a)) (sym (test s) ∙ c .if1 .left))
+
+pub pick-spec : {M : Type 1} → statement M
+pick-spec = tie.close (tie.spec returns returns-2)

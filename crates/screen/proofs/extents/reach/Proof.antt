@@ -1,0 +1,128 @@
+use mathlib.Core.Path.{_≡_, refl, sym, _∙_, ap}
+use mathlib.Core.List.{List}
+use Prim.Native.Nat.{_+_, _-_, _%_, _≤_, _<_}
+use native.Mathlib.Omega.{arith}
+use mir.Syntax.{w64}
+use mir.Val.{toZ}
+use lib.IntN.{ℤ, pos}
+use lib.ListN.{length, getD, drop}
+use borrow.Author.Needs.{needs}
+use Rattle.whole.specs.Tests.{out-ok, out-is}
+use Rattle.sheet.specs.declared.Object.{Object}
+use Rattle.screen.specs.Lists.{width, objectsOf}
+use Rattle.screen.specs.ListsLaws.{objectAt, objects-at, objects-end}
+use Rattle.screen.specs.Extents.{endsOf, farthest}
+use Rattle.screen.specs.ExtentsLaws.{stepped, ends-step, first-part, second-part}
+use Rattle.screen.proofs.extents.reach.Statement.{statement}
+use Rattle.screen.proofs.extents.reach.Tie as tie
+
+abbrev Inv-loop : tie.InvT-loop
+Inv-loop list up axis start far₀ at₀ far at =
+    (at ≤ length list)
+    × ((at % width ≡ 0)
+    × (farthest up axis (toZ w64 start) (endsOf (objectsOf list)) ≡ farthest up axis (toZ w64 far) (endsOf (objectsOf (drop at list)))))
+
+abbrev μ-loop : tie.MeasureT-loop
+μ-loop list up axis start far₀ at₀ far at = length list - at
+
+loop-holds : tie.Need-loop-holds Inv-loop μ-loop
+loop-holds c = (omega arith, (omega arith, refl))
+
+mul-kind : tie.Need-mul-kind Inv-loop μ-loop
+mul-kind c = search needs
+
+shared-slice-copy-out-kind : tie.Need-shared-slice-copy-out-kind Inv-loop μ-loop
+shared-slice-copy-out-kind c = search needs
+
+add-p : tie.Need-add-p Inv-loop μ-loop
+add-p c = search needs
+
+add-p-2 : tie.Need-add-p-2 Inv-loop μ-loop
+add-p-2 c = search needs
+
+mul-p : tie.Need-mul-p Inv-loop μ-loop
+mul-p c = search needs
+
+shared-slice-copy-out-p : tie.Need-shared-slice-copy-out-p Inv-loop μ-loop
+shared-slice-copy-out-p c = search needs
+
+add-q : tie.Need-add-q Inv-loop μ-loop
+add-q c = search needs
+
+add-q-2 : tie.Need-add-q-2 Inv-loop μ-loop
+add-q-2 c = search needs
+
+mul-q : tie.Need-mul-q Inv-loop μ-loop
+mul-q c = search needs
+
+shared-slice-copy-out-q : tie.Need-shared-slice-copy-out-q Inv-loop μ-loop
+shared-slice-copy-out-q c = search needs
+
+step-requires : tie.Need-step-requires Inv-loop μ-loop
+step-requires c κs = search needs
+
+add-at : tie.Need-add-at Inv-loop μ-loop
+add-at c = search needs
+
+loop-less : tie.Need-loop-less Inv-loop μ-loop
+loop-less c = search needs
+
+loop-again : tie.Need-loop-again Inv-loop μ-loop
+loop-again c =
+    let p = c .before .before in
+    let at-loop = p .before .before .before in
+    let s = at-loop .before in
+    let l = s .args .list .now in
+    let at = at-loop .loop .at in
+    let axis = s .args .axis in
+    let few : axis < 2 = s .pre .1 in
+    let was = toZ w64 (at-loop .loop .far) in
+    let r = c .step in
+    let kind = out-ok (getD l at (pos 0)) (p .before .kind .given) in
+    let first = out-ok _ (p .p .given) ∙ first-part l at axis few in
+    let second = out-ok _ (c .before .q .given) ∙ second-part l at axis few in
+    let far = out-ok (r .result) (r .ok) ∙ r .ensures
+    ∙ (λ i. stepped (s .args .up) was (kind i) (first i) (second i)) in (
+      omega arith,
+      (
+        omega arith,
+        at-loop .loop .inv .1 .1
+            ∙ ap (λ (os : List Object). farthest (s .args .up) axis was (endsOf os)) (objects-at l at (omega arith))
+            ∙ ends-step (s .args .up) axis was (objectAt l at) (objectsOf (drop (at + width) l))
+            ∙ sym (ap (λ (z : ℤ). farthest (s .args .up) axis z (endsOf (objectsOf (drop (at + width) l)))) far),
+      ),
+    )
+
+returns : tie.Need-returns Inv-loop μ-loop
+unfolding farthest endsOf
+returns c =
+    let s = c .before .before in
+    let l = s .args .list .now in
+    let h = c .before .loop in
+    sym
+    (h .inv .1 .1
+    ∙ ap (λ (os : List Object). farthest (s .args .up) (s .args .axis) (toZ w64 (h .far)) (endsOf os)) (objects-end l (h .at) (omega arith)))
+    ∙ ap (λ (z : ℤ). farthest (s .args .up) (s .args .axis) z (endsOf (objectsOf l))) (out-is (s .fits .start))
+
+pub reach-spec : {M : Type 1} → statement M
+reach-spec =
+    tie.close
+    (tie.spec
+    Inv-loop
+    μ-loop
+    loop-holds
+    mul-kind
+    shared-slice-copy-out-kind
+    add-p
+    add-p-2
+    mul-p
+    shared-slice-copy-out-p
+    add-q
+    add-q-2
+    mul-q
+    shared-slice-copy-out-q
+    step-requires
+    add-at
+    loop-less
+    loop-again
+    returns)

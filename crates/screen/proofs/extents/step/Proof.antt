@@ -1,0 +1,54 @@
+use mathlib.Core.Path.{sym, _∙_, ap, ap₂}
+use mathlib.Core.Bool.{Bool, cond}
+use lib.IntN.{ℤ, pos}
+use Rattle.whole.specs.Bound.{fits64, w-pos}
+use Rattle.whole.specs.Tests.{eqZ, eq-eqZ, ne-eqZ, eq-taken, eq-left, out-is, out-ok}
+use Rattle.screen.specs.Extents.{farther}
+use borrow.Author.Needs.{needs}
+use Rattle.screen.proofs.extents.step.Statement.{statement}
+use Rattle.screen.proofs.extents.step.Tie as tie
+
+-- the three choices, by the flags of the kind
+abbrev chosen : tie.Start → Bool → Bool → ℤ
+chosen s one two =
+    cond one (farther (s .args .up) (farther (s .args .up) (s .args .far) (s .args .p)) (s .args .q))
+    (cond two (farther (s .args .up) (s .args .far) (s .args .p)) (s .args .far))
+
+pick-requires : tie.Need-pick-requires
+pick-requires c κs = search needs
+
+pick-requires-2 : tie.Need-pick-requires-2
+pick-requires-2 c κs = search needs
+
+returns : tie.Need-returns
+returns c =
+    let s = c .before .before .before in
+    let inner = out-ok (c .before .pick .result) (c .before .pick .ok) ∙ c .before .pick .ensures
+    ∙ (λ i. farther (s .args .up) (out-is (s .fits .far) i) (out-is (s .fits .p) i)) in
+    let one = eq-eqZ (eq-taken (s .fits .kind) (fits64 (w-pos 1) tt) (c .before .before .if1 .taken)) in
+    out-ok (c .pick2 .result) (c .pick2 .ok) ∙ c .pick2 .ensures
+    ∙ (λ i. farther (s .args .up) (inner i) (out-is (s .fits .q) i))
+    ∙ sym (ap (λ (t : Bool). chosen s t (eqZ (s .args .kind) (pos 2))) one)
+
+pick-requires-3 : tie.Need-pick-requires-3
+pick-requires-3 c κs = search needs
+
+returns-2 : tie.Need-returns-2
+returns-2 c =
+    let s = c .before .before .before in
+    let one = ne-eqZ {a = s .args .kind} {b = pos 1} (eq-left (c .before .before .if1 .left)) in
+    let two = eq-eqZ (eq-taken (s .fits .kind) (fits64 (w-pos 2) tt) (c .before .if2 .taken)) in
+    out-ok (c .pick3 .result) (c .pick3 .ok) ∙ c .pick3 .ensures
+    ∙ (λ i. farther (s .args .up) (out-is (s .fits .far) i) (out-is (s .fits .p) i))
+    ∙ sym (ap₂ (chosen s) one two)
+
+returns-3 : tie.Need-returns-3
+returns-3 c =
+    let s = c .before .before in
+    let one = ne-eqZ {a = s .args .kind} {b = pos 1} (eq-left (c .before .if1 .left)) in
+    let two = ne-eqZ {a = s .args .kind} {b = pos 2} (eq-left (c .if2 .left)) in
+    out-is (s .fits .far) ∙ sym (ap₂ (chosen s) one two)
+
+pub step-spec : {M : Type 1} → statement M
+step-spec =
+    tie.close (tie.spec pick-requires pick-requires-2 returns pick-requires-3 returns-2 returns-3)

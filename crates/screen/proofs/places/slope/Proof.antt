@@ -1,0 +1,41 @@
+use mathlib.Core.Path.{_≡_, sym, _∙_, ap, ap₂}
+use mathlib.Core.Bool.{Bool, cond, _||_}
+use lib.IntN.{pos}
+use lib.Dec.{eqb}
+use mir.Syntax.{w64}
+use mir.Val.{ofZ}
+use Rattle.whole.specs.Tests.{eqZ, out-is, lit-flag}
+use Rattle.screen.specs.Quotient.{quotient}
+use Rattle.screen.specs.PlacesLaws.{alongNumber}
+use borrow.Author.Needs.{needs}
+use Rattle.screen.proofs.places.slope.Statement.{statement}
+use Rattle.screen.proofs.places.slope.Tie as tie
+
+upright :
+    (s : tie.Start) →
+    eqb (ofZ w64 (s .args .side)) 1 || eqb (ofZ w64 (s .args .side)) 3 ≡ eqZ (s .args .side) (pos 1) || eqZ (s .args .side) (pos 3)
+upright s = λ i. lit-flag 1 tt (s .fits .side) i || lit-flag 3 tt (s .fits .side) i
+
+ratio-requires : tie.Need-ratio-requires
+ratio-requires c κs = search needs
+
+-- what the flag chooses
+chosen : (s : tie.Start) {t : Bool} → eqb (ofZ w64 (s .args .side)) 1 || eqb (ofZ w64 (s .args .side)) 3 ≡ t
+    → cond t (s .args .my) (s .args .mx) ≡ alongNumber (s .args .side) (s .args .mx) (s .args .my)
+chosen s e = sym (ap (λ (t : Bool). cond t (s .args .my) (s .args .mx)) (sym (upright s) ∙ e))
+
+returns : tie.Need-returns
+returns c =
+    let s = c .before .before in
+    c .ratio .ensures .0 ∙ ap₂ quotient (out-is (s .fits .my) ∙ chosen s (c .before .if1 .taken)) (out-is (s .fits .w))
+
+ratio-requires-2 : tie.Need-ratio-requires-2
+ratio-requires-2 c κs = search needs
+
+returns-2 : tie.Need-returns-2
+returns-2 c =
+    let s = c .before .before in
+    c .ratio2 .ensures .0 ∙ ap₂ quotient (out-is (s .fits .mx) ∙ chosen s (c .before .if1 .left)) (out-is (s .fits .w))
+
+pub slope-spec : {M : Type 1} → statement M
+slope-spec = tie.close (tie.spec ratio-requires returns ratio-requires-2 returns-2)

@@ -1,0 +1,13 @@
+pub mod Quotient
+pub mod Rounding
+pub mod QuotientLaws
+pub mod Told
+pub mod ToldLaws
+pub mod Places
+pub mod PlacesLaws
+pub mod Shown
+pub mod Lists
+pub mod Extents
+pub mod ListsLaws
+pub mod ExtentsLaws
+pub mod Surrounds

@@ -1,0 +1,60 @@
+-- "A place is either a position with x and y as 64-bit floats, or an edge with its side number and a slope as a float."
+use mathlib.Core.Bool.{Bool, cond, not, _&&_}
+use mathlib.Core.List.{[], _∷_}
+use lib.IntN.{ℤ, pos, negℤ}
+use Rattle.whole.specs.Tests.{eqZ}
+use Rattle.sheet.specs.declared.Point.{Point}
+use Rattle.sheet.specs.Figure.{Side, left, bottom, right, top}
+use Rattle.sheet.specs.Ends.{nextSide}
+use Rattle.sheet.specs.RefusalLaws.{sideNumber}
+use Rattle.sheet.specs.Points.{standard}
+use Rattle.screen.specs.declared.Place.{Place}
+use Rattle.screen.specs.declared.Place.the-variants.{At, Edge, Refused}
+use Rattle.screen.specs.Quotient.{quotient}
+use Rattle.screen.specs.Told.{Told, refusal}
+
+-- what each place says: 0, then x and y, or the side number and the slope; or the refusal
+abbrev pub placeSays : Place → Told
+placeSays (At x y) = record { wholes = pos 0 ∷ []; floats = x ∷ y ∷ [] }
+placeSays (Edge n t) = record { wholes = pos 0 ∷ n ∷ []; floats = t ∷ [] }
+placeSays (Refused n) = refusal n
+
+-- ---- the side of a frame point
+
+-- a coordinate (m R + n)/v is exactly R; of -w in place of w, exactly -R
+abbrev pub exactly : ℤ → ℤ → ℤ → Bool
+exactly m n v = eqZ m v && eqZ n (pos 0)
+
+-- x is -R on the left side and R on the right one, y is -R on the bottom one and R on the top one
+abbrev pub isOn : Side → Point → Bool
+isOn left p = exactly (p .mx) (p .nx) (negℤ (p .w))
+isOn bottom p = exactly (p .my) (p .ny) (negℤ (p .w))
+isOn right p = exactly (p .mx) (p .nx) (p .w)
+isOn top p = exactly (p .my) (p .ny) (p .w)
+
+-- "A corner goes to the side that begins there", so not to the one that ends there, which is where the next one begins
+abbrev pub goesTo : Side → Point → Bool
+goesTo s p = isOn s p && not (isOn (nextSide s) p)
+
+unfoldable pub sideWhere : Point → Side
+sideWhere p = cond (goesTo left p) left (cond (goesTo bottom p) bottom (cond (goesTo right p) right top))
+
+-- "m .. of the coordinate along that side"
+abbrev pub along : Side → Point → ℤ
+along left p = p .my
+along bottom p = p .mx
+along right p = p .my
+along top p = p .mx
+
+-- ---- the place
+
+-- "A standard point gives nx/w and ny/w"
+abbrev pub positionOf : Point → Told
+positionOf p = record { wholes = pos 0 ∷ []; floats = quotient (p .nx) (p .w) ∷ quotient (p .ny) (p .w) ∷ [] }
+
+-- "a frame point gives its side and m/w of the coordinate along that side"
+abbrev pub edgeOf : Point → Told
+edgeOf p = record { wholes = pos 0 ∷ sideNumber (sideWhere p) ∷ []; floats = quotient (along (sideWhere p) p) (p .w) ∷ [] }
+
+unfoldable pub placeOf : Point → Told
+placeOf p = cond (standard p) (positionOf p) (edgeOf p)

@@ -1,0 +1,281 @@
+-- The laws of places. To cite:
+--   place-one       no two places say the same
+--   corner-side     the side of a corner begins there;  side-where   a frame point is on its side, and not where that side ends
+--   side-only       and it is so of no other side
+--   Placed, placed  the place of a point, with the error of each of its values
+--   Ratios, ratios  the numbers of a point that are divided are within the limits
+--   alongNumber, along-is   the coordinate along a side, by the side's number
+--   not-refused     what is not refused is a point
+--   flat-standard, full-frame   a point is standard where mx and my are 0, and not elsewhere;  frame-standard   not on the frame
+--   side-first, .. side-fourth  `sideWhere` by its tests in turn
+-- Assumes nothing.
+use mathlib.Core.Path.{_≡_, refl, sym, _∙_, ap, ap₂}
+use mathlib.Core.Logic.{_⊎_, inl, inr}
+use mathlib.Core.Bool.{Bool, true, false, cond, not, _&&_, _||_, true≢false}
+use Prim.Native.Nat.{ℕ, suc}
+use native.Mathlib.Omega.{arith}
+use lib.IntN.{ℤ, pos, negsuc, negℤ, natAbs}
+use lib.Signed.{_<ℤ_}
+use Rattle.whole.specs.Bound.{w-lit}
+use Rattle.whole.specs.Order.{pp-dest}
+use Rattle.whole.specs.Tests.{eqZ, eq-eqZ, eqZ-true}
+use Rattle.sheet.specs.declared.Point.{Point}
+use Rattle.sheet.specs.Figure.{Side, left, bottom, right, top}
+use Rattle.sheet.specs.Ends.{begins}
+use Rattle.sheet.specs.Flags.{both, not-both}
+use Rattle.sheet.specs.Points.{size, standard, isPoint, pointRefusal}
+use Rattle.sheet.specs.PointsLaws.{Standard, OnEdge, Frame, APoint, a-standard, a-frame, point-sizes, standard-is, point-is}
+use Rattle.sheet.specs.RefusalLaws.{sideNumber}
+use Rattle.screen.specs.declared.Place.{Place}
+use Rattle.screen.specs.declared.Place.the-variants.{At, Edge, Refused}
+use Rattle.screen.specs.Quotient.{quotient, Parts, Near}
+use Rattle.screen.specs.QuotientLaws.{quotient-near}
+use Rattle.screen.specs.Told.{Told}
+use Rattle.screen.specs.Places.{placeSays, exactly, isOn, goesTo, sideWhere, along, positionOf, edgeOf, placeOf}
+
+-- ---- no two places say the same
+
+pub place-one : (r s : Place) → placeSays r ≡ placeSays s → r ≡ s
+place-one (At x y) (At x′ y′) e =
+    let f = ap (λ (t : Told). t .floats) e in
+    let ex : x ≡ x′ = cc in
+    let ey : y ≡ y′ = cc in
+    ap₂ At ex ey
+place-one (At x y) (Edge n t) e = let f = ap (λ (u : Told). u .wholes) e in let z : _≡_ {A = ℕ} 0 1 = cc in absurd (omega arith)
+place-one (At x y) (Refused n) e = let f = ap (λ (u : Told). u .floats) e in let z : _≡_ {A = ℕ} 0 1 = cc in absurd (omega arith)
+place-one (Edge n t) (At x y) e = let f = ap (λ (u : Told). u .wholes) e in let z : _≡_ {A = ℕ} 0 1 = cc in absurd (omega arith)
+place-one (Edge n t) (Edge n′ t′) e =
+    let f = ap (λ (u : Told). u .floats) e in
+    let g = ap (λ (u : Told). u .wholes) e in
+    let et : t ≡ t′ = cc in
+    let en : n ≡ n′ = cc in
+    ap₂ Edge en et
+place-one (Edge n t) (Refused m) e = let f = ap (λ (u : Told). u .floats) e in let z : _≡_ {A = ℕ} 0 1 = cc in absurd (omega arith)
+place-one (Refused n) (At x y) e = let f = ap (λ (u : Told). u .floats) e in let z : _≡_ {A = ℕ} 0 1 = cc in absurd (omega arith)
+place-one (Refused n) (Edge m t) e = let f = ap (λ (u : Told). u .floats) e in let z : _≡_ {A = ℕ} 0 1 = cc in absurd (omega arith)
+place-one (Refused n) (Refused m) e = let f = ap (λ (u : Told). u .wholes) e in let z : n ≡ m = cc in ap Refused z
+
+-- ---- the side of a frame point
+
+pub corner-side : (s : Side) → sideWhere (begins s) ≡ s
+unfolding sideWhere
+corner-side left = refl
+corner-side bottom = refl
+corner-side right = refl
+corner-side top = refl
+
+-- by the flags of the four sides
+abbrev pick : Bool → Bool → Bool → Bool → Side
+pick l b r t = cond (l && not b) left (cond (b && not r) bottom (cond (r && not t) right top))
+
+abbrev goes : Side → Bool → Bool → Bool → Bool → Bool
+goes left l b r t = l && not b
+goes bottom l b r t = b && not r
+goes right l b r t = r && not t
+goes top l b r t = t && not l
+
+abbrev Some : Bool → Bool → Bool → Bool → Type 0
+Some l b r t = ((l ≡ true) ⊎ (r ≡ true)) ⊎ ((b ≡ true) ⊎ (t ≡ true))
+
+-- on some side, and on no two that lie opposite
+picked : (l b r t : Bool) → Some l b r t → (l ≡ true → r ≡ false) → (b ≡ true → t ≡ false) → goes (pick l b r t) l b r t ≡ true
+picked true false r t some lr bt = refl
+picked true true false t some lr bt = refl
+picked true true true t some lr bt = absurd (true≢false (lr refl))
+picked false true false t some lr bt = refl
+picked false true true false some lr bt = refl
+picked false true true true some lr bt = absurd (true≢false (bt refl))
+picked false false true false some lr bt = refl
+picked false false true true some lr bt = refl
+picked false false false true some lr bt = refl
+picked false false false false some lr bt = absurd (nowhere some)
+  where
+    nowhere : Some false false false false → ⊥
+    nowhere (inl (inl e)) = true≢false (sym e)
+    nowhere (inl (inr e)) = true≢false (sym e)
+    nowhere (inr (inl e)) = true≢false (sym e)
+    nowhere (inr (inr e)) = true≢false (sym e)
+
+-- and there is no other
+only : (s : Side) (l b r t : Bool) → (l ≡ true → r ≡ false) → (b ≡ true → t ≡ false) → goes s l b r t ≡ true → pick l b r t ≡ s
+only left true false r t lr bt e = refl
+only left true true r t lr bt e = absurd (true≢false (sym e))
+only left false b r t lr bt e = absurd (true≢false (sym e))
+only bottom true true false t lr bt e = refl
+only bottom false true false t lr bt e = refl
+only bottom l true true t lr bt e = absurd (true≢false (sym e))
+only bottom l false r t lr bt e = absurd (true≢false (sym e))
+only right true b true t lr bt e = absurd (true≢false (lr refl))
+only right false true true false lr bt e = refl
+only right false false true false lr bt e = refl
+only right false b true true lr bt e = absurd (true≢false (sym e))
+only right l b false t lr bt e = absurd (true≢false (sym e))
+only top false true r true lr bt e = absurd (true≢false (bt refl))
+only top false false true true lr bt e = refl
+only top false false false true lr bt e = refl
+only top true b r true lr bt e = absurd (true≢false (sym e))
+only top l b r false lr bt e = absurd (true≢false (sym e))
+
+exactly-of : {m n v : ℤ} → m ≡ v → n ≡ pos 0 → exactly m n v ≡ true
+exactly-of {m} {n} {v} e z = both (eqZ m v) (eqZ n (pos 0)) .1 (eq-eqZ e, eq-eqZ z)
+
+-- a coordinate of size w is -w or w
+edge-ends : {m n w : ℤ} → OnEdge m n w → (exactly m n (negℤ w) ≡ true) ⊎ (exactly m n w ≡ true)
+edge-ends {m} {n} {w} o = go m (o .full)
+  where
+    go : (k : ℤ) → size k ≡ w → (exactly k n (negℤ w) ≡ true) ⊎ (exactly k n w ≡ true)
+    go (pos a) e = inr (exactly-of e (o .even))
+    go (negsuc a) e = inl (exactly-of {v = negℤ w} (ap negℤ e) (o .even))
+
+-- -w is not w
+two-ends : {w : ℤ} (m n : ℤ) → pos 0 <ℤ w → exactly m n (negℤ w) ≡ true → exactly m n w ≡ false
+two-ends {w} m n h e = not-both (eqZ m w) (eqZ n (pos 0)) .1 (λ k. absurd (apart (sym low ∙ eqZ-true {a = m} {b = w} k)))
+  where
+    low : m ≡ negℤ w
+    low = eqZ-true (both (eqZ m (negℤ w)) (eqZ n (pos 0)) .0 e .0)
+
+    apart : negℤ w ≡ w → ⊥
+    apart q =
+        let d = pp-dest h in
+        let z : negsuc (d .0) ≡ pos (suc (d .0)) = sym (ap negℤ (d .1)) ∙ q ∙ d .1 in
+        let y : _≡_ {A = ℕ} 0 1 = cc in
+        omega arith
+
+goes-is : (s : Side) (p : Point) → goesTo s p ≡ goes s (isOn left p) (isOn bottom p) (isOn right p) (isOn top p)
+goes-is left p = refl
+goes-is bottom p = refl
+goes-is right p = refl
+goes-is top p = refl
+
+module _ {p : Point} (f : Frame p) where
+  not-opposite-x : isOn left p ≡ true → isOn right p ≡ false
+  not-opposite-x = two-ends (p .mx) (p .nx) (f .slim .in-w .above)
+
+  not-opposite-y : isOn bottom p ≡ true → isOn top p ≡ false
+  not-opposite-y = two-ends (p .my) (p .ny) (f .slim .in-w .above)
+
+  pub side-where : goesTo (sideWhere p) p ≡ true
+  unfolding sideWhere
+  side-where =
+      goes-is (pick (isOn left p) (isOn bottom p) (isOn right p) (isOn top p)) p
+      ∙ picked (isOn left p) (isOn bottom p) (isOn right p) (isOn top p) (some (f .on-edge)) not-opposite-x not-opposite-y
+    where
+      some : OnEdge (p .mx) (p .nx) (p .w) ⊎ OnEdge (p .my) (p .ny) (p .w)
+          → Some (isOn left p) (isOn bottom p) (isOn right p) (isOn top p)
+      some (inl o) = inl (edge-ends o)
+      some (inr o) = inr (edge-ends o)
+
+  pub side-only : (s : Side) → goesTo s p ≡ true → sideWhere p ≡ s
+  unfolding sideWhere
+  side-only s e =
+      only s (isOn left p) (isOn bottom p) (isOn right p) (isOn top p) not-opposite-x not-opposite-y (sym (goes-is s p) ∙ e)
+
+module _ (p : Point) where
+  pub side-first : goesTo left p ≡ true → sideWhere p ≡ left
+  unfolding sideWhere
+  side-first e = simp e
+
+  pub side-second : goesTo left p ≡ false → goesTo bottom p ≡ true → sideWhere p ≡ bottom
+  unfolding sideWhere
+  side-second e f = simp (e, f)
+
+  pub side-third : goesTo left p ≡ false → goesTo bottom p ≡ false → goesTo right p ≡ true → sideWhere p ≡ right
+  unfolding sideWhere
+  side-third e f g = simp (e, f, g)
+
+  pub side-fourth : goesTo left p ≡ false → goesTo bottom p ≡ false → goesTo right p ≡ false → sideWhere p ≡ top
+  unfolding sideWhere
+  side-fourth e f g = simp (e, f, g)
+
+-- ---- the coordinate along a side, by its number
+
+abbrev pub alongNumber : ℤ → ℤ → ℤ → ℤ
+alongNumber n mx my = cond (eqZ n (pos 1) || eqZ n (pos 3)) my mx
+
+pub along-is : (s : Side) (p : Point) → alongNumber (sideNumber s) (p .mx) (p .my) ≡ along s p
+along-is left p = refl
+along-is bottom p = refl
+along-is right p = refl
+along-is top p = refl
+
+-- ---- standard and frame points
+
+full-above : {m n w : ℤ} → pos 0 <ℤ w → OnEdge m n w → m ≡ pos 0 → ⊥
+full-above {m} {n} {w} h o e =
+    let d = pp-dest h in
+    let z : pos 0 ≡ pos (suc (d .0)) = sym (ap size e) ∙ o .full ∙ d .1 in
+    let y = ap natAbs z in
+    omega arith
+
+frame-moves : {p : Point} → Frame p → p .mx ≡ pos 0 → p .my ≡ pos 0 → ⊥
+frame-moves {p} f ex ey = go (f .on-edge)
+  where
+    go : OnEdge (p .mx) (p .nx) (p .w) ⊎ OnEdge (p .my) (p .ny) (p .w) → ⊥
+    go (inl o) = full-above (f .slim .in-w .above) o ex
+    go (inr o) = full-above (f .slim .in-w .above) o ey
+
+pub full-frame : (p : Point) → (p .mx ≡ pos 0 → p .my ≡ pos 0 → ⊥) → standard p ≡ false
+full-frame p n = go (standard p) (λ e. standard-is p .0 e)
+  where
+    go : (t : Bool) → (t ≡ true → Standard p) → t ≡ false
+    go true f = let s = f refl in absurd (n (s .no-mx) (s .no-my))
+    go false f = refl
+
+pub frame-standard : {p : Point} → Frame p → standard p ≡ false
+frame-standard {p} f = full-frame p (frame-moves f)
+
+pub flat-standard : {p : Point} → APoint p → p .mx ≡ pos 0 → p .my ≡ pos 0 → standard p ≡ true
+flat-standard {p} (a-standard s e) ex ey = standard-is p .1 s
+flat-standard (a-frame f e) ex ey = absurd (frame-moves f ex ey)
+
+-- what is not refused is a point
+pub not-refused : {p : Point} → pointRefusal p ≡ pos 0 → APoint p
+unfolding pointRefusal
+not-refused {p} h = go (isPoint p) (λ e. point-is p .0 e) h
+  where
+    go : (t : Bool) → (t ≡ true → APoint p) → cond t (pos 0) (pos 5) ≡ pos 0 → APoint p
+    go true f e = f refl
+    go false f e = let z = ap natAbs e in absurd (omega arith)
+
+-- ---- the values of a place
+
+-- the numbers that a place divides
+pub record Ratios (p : Point) : Type 0 where
+  pub in-nx : Parts (p .nx) (p .w)
+  pub in-ny : Parts (p .ny) (p .w)
+  pub in-mx : Parts (p .mx) (p .w)
+  pub in-my : Parts (p .my) (p .w)
+
+pub ratios : {p : Point} → APoint p → Ratios p
+ratios a =
+    let s = point-sizes a in
+    record {
+      in-nx = record { in-n = s .in-nx; in-w = s .in-w };
+      in-ny = record { in-n = s .in-ny; in-w = s .in-w };
+      in-mx = record { in-n = w-lit (s .in-mx) tt; in-w = s .in-w };
+      in-my = record { in-n = w-lit (s .in-my) tt; in-w = s .in-w };
+    }
+
+along-parts : {p : Point} (s : Side) → Ratios p → Parts (along s p) (p .w)
+along-parts left r = r .in-my
+along-parts bottom r = r .in-mx
+along-parts right r = r .in-my
+along-parts top r = r .in-mx
+
+-- the place of a point: each value is near its fraction, and a frame point is on its side, not where that one ends
+pub data Placed (p : Point) : Type 0 where
+  at-position : Standard p → placeOf p ≡ positionOf p
+      → Near (p .nx) (p .w) (quotient (p .nx) (p .w)) → Near (p .ny) (p .w) (quotient (p .ny) (p .w)) → Placed p
+  on-edge : Frame p → placeOf p ≡ edgeOf p → goesTo (sideWhere p) p ≡ true
+      → Near (along (sideWhere p) p) (p .w) (quotient (along (sideWhere p) p) (p .w)) → Placed p
+
+pub placed : {p : Point} → APoint p → Placed p
+unfolding placeOf
+placed {p} (a-standard s e) =
+    let r = ratios (a-standard s e) in
+    at-position s (ap (λ (t : Bool). cond t (positionOf p) (edgeOf p)) (standard-is p .1 s))
+    (quotient-near (r .in-nx)) (quotient-near (r .in-ny))
+placed {p} (a-frame f e) =
+    let r = ratios (a-frame f e) in
+    on-edge f (ap (λ (t : Bool). cond t (positionOf p) (edgeOf p)) (frame-standard f)) (side-where f)
+    (quotient-near (along-parts (sideWhere p) r))

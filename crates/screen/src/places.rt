@@ -1,0 +1,85 @@
+// Where a point is on the screen: at a position, or on a side of the frame.
+use crate::Place;
+use crate::quotient::ratio;
+use kernel::points::check_point;
+use sheet::Point;
+ghost use mathlib.Core.Path.{_≡_};
+ghost use Rattle.sheet.specs.Points.{pointRefusal};
+ghost use Rattle.sheet.specs.PointsLaws.{APoint};
+ghost use Rattle.sheet.specs.RefusalLaws.{sideNumber};
+ghost use Rattle.screen.specs.Quotient.{Parts, quotient};
+ghost use Rattle.screen.specs.Told.{answered};
+ghost use Rattle.screen.specs.Places.{exactly, sideWhere, edgeOf, placeOf, placeSays};
+ghost use Rattle.screen.specs.PlacesLaws.{alongNumber};
+
+// A coordinate (m R + n)/v is exactly R.
+fn is_exactly(m: i64, n: i64, v: i64) -> bool
+    ensures { λ r. ⌜ r ≡ exactly m n v ⌝ }
+{
+    (m == v) & (n == 0)
+}
+
+// The number of the side that a frame point is on: of a corner, the side that begins there.
+fn side_number(mx: i64, nx: i64, my: i64, ny: i64, w: i64) -> i64
+    requires { ⌜ Parts mx w ⌝ }
+    ensures { λ r. ⌜ r ≡ sideNumber (sideWhere (record { mx = mx; nx = nx; my = my; ny = ny; w = w })) ⌝ }
+{
+    let back = -w;
+    let left = is_exactly(mx, nx, back);
+    let bottom = is_exactly(my, ny, back);
+    let right = is_exactly(mx, nx, w);
+    let top = is_exactly(my, ny, w);
+    if left & !bottom {
+        return 1;
+    }
+    if bottom & !right {
+        return 2;
+    }
+    if right & !top {
+        return 3;
+    }
+    4
+}
+
+// The slope toward a side: the coordinate along it over w.
+fn slope(side: i64, mx: i64, my: i64, w: i64) -> f64
+    requires { ⌜ Parts mx w × Parts my w ⌝ }
+    ensures { λ r. ⌜ r ≡ quotient (alongNumber side mx my) w ⌝ }
+{
+    if (side == 1) | (side == 3) {
+        return ratio(my, w);
+    }
+    ratio(mx, w)
+}
+
+fn edge_place(mx: i64, nx: i64, my: i64, ny: i64, w: i64) -> Place
+    requires { ⌜ Parts mx w × Parts my w ⌝ }
+    ensures { λ r. ⌜ placeSays r ≡ edgeOf (record { mx = mx; nx = nx; my = my; ny = ny; w = w }) ⌝ }
+{
+    let side = side_number(mx, nx, my, ny, w);
+    let t = slope(side, mx, my, w);
+    Place::Edge(side, t)
+}
+
+fn point_place(mx: i64, nx: i64, my: i64, ny: i64, w: i64) -> Place
+    requires { ⌜ APoint (record { mx = mx; nx = nx; my = my; ny = ny; w = w }) ⌝ }
+    ensures { λ r. ⌜ placeSays r ≡ placeOf (record { mx = mx; nx = nx; my = my; ny = ny; w = w }) ⌝ }
+{
+    if (mx == 0) & (my == 0) {
+        let x = ratio(nx, w);
+        let y = ratio(ny, w);
+        return Place::At(x, y);
+    }
+    edge_place(mx, nx, my, ny, w)
+}
+
+// Where a point is: a standard one at a position, a frame one on a side.
+pub fn place_of(p: Point) -> Place
+    ensures { λ r. ⌜ placeSays r ≡ answered (pointRefusal p) (placeOf p) ⌝ }
+{
+    let refusal = check_point(p);
+    if refusal != 0 {
+        return Place::Refused(refusal);
+    }
+    point_place(p.mx, p.nx, p.my, p.ny, p.w)
+}

@@ -1,0 +1,149 @@
+-- `read_drawing` meets its contract: each way out is one of `read-refused`, `read-short` and `read-done`. Assumes nothing.
+use borrow.Author.Needs.{needs}
+use mathlib.Core.Path.{_≡_, sym, ap, _∙_}
+use mathlib.Core.List.{List, _++_}
+use Prim.Native.Nat.{ℕ, _*_}
+use native.Mathlib.Omega.{arith}
+use lib.IntN.{pos}
+use lib.ListN.{length, drop}
+use Rattle.whole.specs.Bound.{fits64, w-pos}
+use Rattle.whole.specs.Tests.{fits-ok, eq-taken}
+use Rattle.store.specs.Stored.{width, Drawing, readObjects, readDrawing}
+use Rattle.store.specs.TellsLaws.{rest-is}
+use Rattle.store.specs.ObjectsLaws.{objects-length, drawing-refused, drawing-counted}
+use Rattle.store.specs.AnswersLaws.{read-refused, read-short, read-done}
+use Rattle.store.proofs.read_drawing.Statement.{statement}
+use Rattle.store.proofs.read_drawing.Tie as tie
+
+read-count-requires : tie.Need-read-count-requires
+read-count-requires c κs = search needs
+
+-- the drawing once its count is read
+counted :
+    (c : tie.After-check-objects) →
+    let r = c .before .before .before .before .read-count .result in
+    let bs = c .before .before .before .before .before .before .args .bytes .now in
+    readDrawing bs ≡ readObjects (r .value) (drop (r .size) bs)
+counted c =
+    drawing-counted (c .before .before .before .before .read-count .ensures .0) (c .before .before .before .struct-told .given .0 .1)
+    (c .before .before .if1 .left)
+
+whole : (c : tie.After-check-objects) → c .check-objects .result ≡ readDrawing
+    (c .before .before .before .before .before .before .args .bytes .now) .refusal
+whole c =
+    let r = c .before .before .before .before .read-count .result in
+    let bs = c .before .before .before .before .before .before .args .bytes .now in
+    c .check-objects .ensures
+    ∙ ap (λ (l : List ℕ). readObjects (r .value) l .refusal) (rest-is (r .size) bs)
+    ∙ sym (ap (λ (d : Drawing). d .refusal) (counted c))
+
+fine : (c : tie.Else2) → readDrawing (c .before .before .before .before .before .before .before .args .bytes .now) .refusal ≡ pos 0
+fine c =
+    let n = c .before .check-objects in
+    sym (whole (c .before)) ∙ eq-taken (fits-ok (n .result) (n .ok)) (fits64 (w-pos 0) tt) (c .if2 .left)
+
+long :
+    (c : tie.Else2) →
+    length (readDrawing (c .before .before .before .before .before .before .before .args .bytes .now) .objects)
+    ≡ c .before .before .before .before .before .read-count .result .value * width
+long c =
+    let r = c .before .before .before .before .before .read-count .result in
+    let bs = c .before .before .before .before .before .before .before .args .bytes .now in
+    ap (λ (d : Drawing). length (d .objects)) (counted (c .before))
+    ∙ objects-length (r .value) (drop (r .size) bs) (sym (ap (λ (d : Drawing). d .refusal) (counted (c .before))) ∙ fine c)
+
+returns : tie.Need-returns
+returns c =
+    let s = c .before .before .before .before in
+    let r = c .before .before .read-count in
+    let ok = c .before .struct-told .given .0 .1 in
+    let d = readDrawing (s .args .bytes .now) in
+    read-refused d (s .args .out .now) (r .result .refusal) ok
+    (sym (ap (λ (d : Drawing). d .refusal) (drawing-refused (r .ensures .0) ok (c .if1 .taken)))) (c .if1 .taken)
+
+sub-check-objects : tie.Need-sub-check-objects
+sub-check-objects c = search needs
+
+part-check-objects-start : tie.Need-part-check-objects-start
+part-check-objects-start c = search needs
+
+part-check-objects-end : tie.Need-part-check-objects-end
+part-check-objects-end c = search needs
+
+check-objects-requires : tie.Need-check-objects-requires
+check-objects-requires c κs = search needs
+
+returns-2 : tie.Need-returns-2
+returns-2 c =
+    let s = c .before .before .before .before .before .before .before in
+    read-refused (readDrawing (s .args .bytes .now)) (s .args .out .now) (c .before .check-objects .result) (c .before .check-objects .ok)
+    (whole (c .before)) (c .if2 .taken)
+
+mul-length : tie.Need-mul-length
+mul-length c = search needs
+
+returns-3 : tie.Need-returns-3
+returns-3 c =
+    let s = c .before .before .before .before .before .before .before .before in
+    let d = readDrawing (s .args .bytes .now) in
+    let count = c .before .before .before .before .before .before .read-count .result .value in
+    read-short d (s .args .out .now) count (fine (c .before)) (long (c .before)) (c .if3 .taken)
+
+sub-fill : tie.Need-sub-fill
+sub-fill c = search needs
+
+part-fill-start : tie.Need-part-fill-start
+part-fill-start c = search needs
+
+part-fill-end : tie.Need-part-fill-end
+part-fill-end c = search needs
+
+fill-requires : tie.Need-fill-requires
+fill-requires c κs =
+    let e = c .before .before .before in
+    let r = e .before .before .before .before .before .read-count .result in
+    let bs = e .before .before .before .before .before .before .before .args .bytes .now in (
+      ap (λ (l : List ℕ). readObjects (r .value) l .refusal) (rest-is (r .size) bs)
+          ∙ sym (ap (λ (d : Drawing). d .refusal) (counted (e .before)))
+          ∙ fine e,
+      omega (arith, c .before .before .if3 .left),
+    )
+
+same-length : tie.Need-same-length
+same-length c = search needs
+
+returns-4 : tie.Need-returns-4
+returns-4 c =
+    let e = c .before .before .before .before .before in
+    let s = e .before .before .before .before .before .before .before in
+    let r = e .before .before .before .before .before .read-count .result in
+    let bs = s .args .bytes .now in
+    let d = readDrawing bs in
+    let lent = s .args .out .now in
+    let done = read-done d lent (r .value) (fine e) (long e) (c .before .before .before .before .if3 .left) in (
+      done .0,
+      c .before .fill .ensures
+          ∙ ap (λ (l : List ℕ). readObjects (r .value) l .objects ++ drop (r .value * width) lent) (rest-is (r .size) bs)
+          ∙ sym (ap (λ (d : Drawing). d .objects ++ drop (r .value * width) lent) (counted (e .before)))
+          ∙ done .1,
+    )
+
+pub read-drawing-spec : {M : Type 1} → statement M
+read-drawing-spec =
+    tie.close
+    (tie.spec
+    read-count-requires
+    returns
+    sub-check-objects
+    part-check-objects-start
+    part-check-objects-end
+    check-objects-requires
+    returns-2
+    mul-length
+    returns-3
+    sub-fill
+    part-fill-start
+    part-fill-end
+    fill-requires
+    same-length
+    returns-4)

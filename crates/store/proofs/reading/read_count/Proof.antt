@@ -1,0 +1,38 @@
+-- `read_count` meets its contract: the number is read whole, then checked. Assumes nothing.
+use borrow.Author.Needs.{needs}
+use mathlib.Core.Path.{refl, _∙_}
+use native.Mathlib.Omega.{arith}
+use borrow.Author.Tests.{lt-ltb, le-ltb}
+use Rattle.store.specs.Stored.{readCount}
+use Rattle.store.specs.TellsLaws.{on-refused, on-taken, tells-taken, tells-refused}
+use Rattle.store.proofs.reading.read_count.Statement.{statement}
+use Rattle.store.proofs.reading.read_count.Tie as tie
+
+read-number-requires : tie.Need-read-number-requires
+read-number-requires c κs = search needs
+
+returns : tie.Need-returns
+unfolding readCount
+returns c =
+    let s = c .before .before in
+    (on-refused (s .read-number .ensures .0) (c .before .struct-told .given .0 .1) _ (c .if1 .taken), omega arith)
+
+returns-2 : tie.Need-returns-2
+unfolding readCount
+returns-2 c =
+    let s = c .before .before .before in
+    let number = on-taken (s .read-number .ensures .0) (c .before .before .struct-told .given .0 .1) _ (c .before .if1 .left) in
+    (tells-refused refl (number ∙ simp (lt-ltb 512 (s .read-number .result .value) (c .if2 .taken))), omega arith)
+
+returns-3 : tie.Need-returns-3
+unfolding readCount
+returns-3 c =
+    let s = c .before .before .before in
+    let number = on-taken (s .read-number .ensures .0) (c .before .before .struct-told .given .0 .1) _ (c .before .if1 .left) in (
+      tells-taken (number ∙ simp (le-ltb 512 (s .read-number .result .value) (c .if2 .left)))
+          (s .read-number .ensures .0 .within),
+      omega arith,
+    )
+
+pub read-count-spec : {M : Type 1} → statement M
+read-count-spec = tie.close (tie.spec read-number-requires returns returns-2 returns-3)

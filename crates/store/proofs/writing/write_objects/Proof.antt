@@ -1,0 +1,123 @@
+-- `write_objects` meets its contract: the invariant: putting what is left gives what putting all gives. Assumes nothing.
+use borrow.Author.Needs.{needs}
+use mathlib.Core.Path.{_≡_, refl, sym, ap, _∙_}
+use mathlib.Core.List.{List}
+use Prim.Native.Nat.{ℕ, _+_, _*_, _-_, _<_, _≤_}
+use native.Mathlib.Omega.{arith}
+use lib.IntN.{ℤ, pos}
+use lib.ListN.{length, drop, length-append}
+use lib.Seq.{sets, length-sets}
+use Rattle.store.specs.Stored.{width, objectAt, writeObject, writeObjects, objectsRefusal}
+use Rattle.store.specs.Bounded.{Wrote}
+use Rattle.store.specs.WriteLaws.{wrote-as, accepted-bounded}
+use Rattle.store.specs.ListLaws.{refusal-step, object-fine, objects-more, objects-none}
+use Rattle.store.specs.FillLaws.{sets-two}
+use Rattle.store.proofs.writing.write_objects.Statement.{statement}
+use Rattle.store.proofs.writing.write_objects.Tie as tie
+
+-- left objects are still to be written: from the place `at` of the list on, to the place `to` of the bytes
+record Stands (d : List ℕ) (from count : ℕ) (list : List ℤ) (out : List ℕ) (to left at : ℕ) : Type 0 where
+  place : at + left * width ≡ count * width
+  fine : objectsRefusal left (drop at list) ≡ pos 0
+  room : to + length (writeObjects left (drop at list)) ≤ length out
+  same : length out ≡ length d
+  is : sets out to (writeObjects left (drop at list)) ≡ sets d from (writeObjects count list)
+
+-- one more object is written
+step :
+    {d : List ℕ} {from count : ℕ} (list : List ℤ) {out out′ : List ℕ} {to to′ : ℕ} (left at : ℕ)
+    → 0 < left → Stands d from count list out to left at
+    → Wrote out out′ to to′ (writeObject (objectAt list at)) → Stands d from count list out′ to′ (left - 1) (at + width)
+step {d} {from} {count} list {out} {out′} {to} {to′} left at more s w =
+    let piece = writeObject (objectAt list at) in
+    let behind = writeObjects (left - 1) (drop (at + width) list) in
+    let next = objects-more left list at more in
+    let long = ap length next ∙ length-append piece behind in
+    let same = ap length (w .is) ∙ length-sets out to piece in
+    record {
+      place = omega (arith, s .place);
+      fine = sym (refusal-step left list at more (object-fine left list at more (s .fine))) ∙ s .fine;
+      room = omega (arith, s .room, w .place);
+      same = same ∙ s .same;
+      is =
+          (λ i. sets (w .is i) (w .place i) behind)
+          ∙ sets-two piece behind out to
+          ∙ ap (sets out to) (sym next)
+          ∙ s .is;
+    }
+
+abbrev Inv-loop : tie.InvT-loop
+Inv-loop out₀ from count list to₀ left₀ at₀ out to left at = Stands out₀ from count list out to left at
+
+abbrev μ-loop : tie.MeasureT-loop
+μ-loop out₀ from count list to₀ left₀ at₀ out to left at = left
+
+-- src/writing.rt:183:5
+loop-holds : tie.Need-loop-holds Inv-loop μ-loop
+loop-holds c = record { place = omega arith; fine = c .before .pre .0 .1; room = c .before .pre .1; same = refl; is = refl }
+
+-- src/writing.rt:184:13
+object-at-requires : tie.Need-object-at-requires Inv-loop μ-loop
+object-at-requires c κs = omega (arith, c .before .loop .inv .place, c .before .before .before .pre .0 .0)
+
+-- src/writing.rt:185:9
+write-object-requires : tie.Need-write-object-requires Inv-loop μ-loop
+write-object-requires c κs =
+    let s = c .before .before .before .before .before in
+    let l = c .before .before .before .loop in
+    let list = s .args .list .now in
+    let o = objectAt list (l .at) in
+    let behind = writeObjects (l .left - 1) (drop (l .at + width) list) in
+    let long = ap length (objects-more (l .left) list (l .at) (omega arith)) ∙ length-append (writeObject o) behind in
+    simp (c .before .object-at .ensures)
+    (accepted-bounded o (object-fine (l .left) list (l .at) (omega arith) (l .inv .fine)), omega (arith, l .inv .room))
+
+-- src/writing.rt:186:9
+add-at : tie.Need-add-at Inv-loop μ-loop
+add-at c = omega (
+  arith,
+  c .before .before .before .before .before .before .loop .inv .place,
+  c .before .before .before .before .before .before .before .before .pre .0 .0,
+)
+
+-- src/writing.rt:187:9
+sub-left : tie.Need-sub-left Inv-loop μ-loop
+sub-left c = search needs
+
+-- src/writing.rt:183:5
+loop-less : tie.Need-loop-less Inv-loop μ-loop
+loop-less c = search needs
+
+-- src/writing.rt:183:5
+loop-again : tie.Need-loop-again Inv-loop μ-loop
+loop-again c =
+    let l = c .before .before .before .before .before .before .loop in
+    step (c .before .before .before .before .before .before .before .before .args .list .now) (l .left) (l .at) (omega arith) (l .inv)
+    (wrote-as (c .before .before .write-object .ensures) (ap writeObject (c .before .before .before .before .object-at .ensures)))
+
+-- src/writing.rt:175:1
+same-length : tie.Need-same-length Inv-loop μ-loop
+same-length c = c .before .loop .inv .same
+
+-- src/writing.rt:175:1
+returns : tie.Need-returns Inv-loop μ-loop
+returns c =
+    let l = c .before .loop in
+    let done = objects-none (l .left) (drop (l .at) (c .before .before .before .args .list .now)) (omega arith) in
+    ap (sets (l .out) (l .to)) (sym done) ∙ l .inv .is
+
+pub write-objects-spec : {M : Type 1} → statement M
+write-objects-spec =
+    tie.close
+    (tie.spec
+    Inv-loop
+    μ-loop
+    loop-holds
+    object-at-requires
+    write-object-requires
+    add-at
+    sub-left
+    loop-less
+    loop-again
+    same-length
+    returns)

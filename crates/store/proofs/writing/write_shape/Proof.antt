@@ -1,0 +1,60 @@
+-- `write_shape` meets its contract: by the kind. Assumes nothing.
+use borrow.Author.Needs.{needs}
+use native.Mathlib.Omega.{arith}
+use Rattle.whole.specs.Tests.{out-is, eq-eqZ, ne-eqZ, eq-taken, eq-left}
+use lib.IntN.{pos}
+use Rattle.whole.specs.Bound.{fits64, w-pos}
+use Rattle.store.specs.Stored.{writeShape}
+use Rattle.store.proofs.writing.write_shape.Statement.{statement}
+use Rattle.store.proofs.writing.write_shape.Tie as tie
+
+size-requires : tie.Need-size-requires
+size-requires c κs = search needs
+
+write-number-requires : tie.Need-write-number-requires
+unfolding writeShape
+write-number-requires c κs =
+    let s = c .before .before .before .before in
+    let four = eq-eqZ (eq-taken (s .fits .kind) (fits64 (w-pos 4) tt) (c .before .before .if1 .taken)) in
+    let room = simp four at (s .pre .1) in
+    simp (c .before .size .ensures, out-is, s .fits .px) (omega (arith, s .pre .0 .px), room)
+
+same-length : tie.Need-same-length
+same-length c = search needs
+
+returns : tie.Need-returns
+unfolding writeShape
+returns c =
+    let s = c .before .before .before .before .before .before .before in
+    let four = eq-eqZ (eq-taken (s .fits .kind) (fits64 (w-pos 4) tt) (c .before .before .before .before .before .if1 .taken)) in
+    simp four (simp (c .before .before .before .before .size .ensures, out-is, s .fits .px) at (c .before .before .write-number .ensures))
+
+write-pair-requires : tie.Need-write-pair-requires
+unfolding writeShape
+write-pair-requires c κs =
+    let s = c .before .before .before in
+    let other = ne-eqZ {a = s .args .kind} {b = pos 4} (eq-left (c .before .if1 .left)) in
+    let room = simp other at (s .pre .1) in
+    simp (out-is, s .fits .px, s .fits .py, s .fits .qx, s .fits .qy) (s .pre .0, room)
+
+same-length-2 : tie.Need-same-length-2
+same-length-2 c = search needs
+
+returns-2 : tie.Need-returns-2
+unfolding writeShape
+returns-2 c =
+    let s = c .before .before .before .before .before .before in
+    let other = ne-eqZ {a = s .args .kind} {b = pos 4} (eq-left (c .before .before .before .before .if1 .left)) in
+    simp other (simp (out-is, s .fits .px, s .fits .py, s .fits .qx, s .fits .qy) at (c .before .before .write-pair .ensures))
+
+pub write-shape-spec : {M : Type 1} → statement M
+write-shape-spec =
+    tie.close
+    (tie.spec
+    size-requires
+    write-number-requires
+    same-length
+    returns
+    write-pair-requires
+    same-length-2
+    returns-2)

@@ -1,0 +1,75 @@
+-- "Above the plain functions stands a reader that holds the lent bytes and its place, and gives one object per call." Definitions alone;
+-- what
+-- calling it again and again gives is in ReaderLaws.
+use mathlib.Core.Bool.{cond, true, false}
+use mathlib.Core.List.{List, [], _∷_}
+use Prim.Native.Nat.{ℕ, zero, suc, _*_, _-_}
+use lib.Dec.{ltb}
+use lib.IntN.{ℤ, pos}
+use lib.ListN.{length, drop}
+use denote.Ref.{now}
+use Rattle.whole.specs.Tests.{eqZ}
+use Rattle.sheet.specs.declared.Object.{Object}
+use Rattle.sheet.specs.Answers.{objectNumbers}
+use Rattle.store.specs.declared.Place.{Place}
+use Rattle.store.specs.declared.Item.{Item}
+use Rattle.store.specs.declared.Item.the-variants.{One, End, Refused}
+use Rattle.store.specs.declared.Stepped.{Stepped}
+use Rattle.store.specs.declared.Reader.{Reader}
+use Rattle.store.specs.declared.Taken.{Taken}
+use Rattle.store.specs.Stored.{Drawing, Reading, got, no, width, objectAt, readObject, readCount}
+
+-- before the first call: "its first call also reads the count"
+abbrev pub startPlace : Place
+startPlace = record { begun = false; left = 0; at = 0 }
+
+-- where the rest of the bytes begins
+abbrev pub placeOf : List ℕ → List ℕ → ℕ
+placeOf bs rest = length bs - length rest
+
+abbrev pub stepTo : Item → Place → Stepped
+stepTo i p = record { item = i; place = p }
+
+-- "end and refusal keep its place"
+abbrev pub stepObject : List ℕ → Place → ℕ → Reading Object → Stepped
+stepObject bs p left (got o rest) = stepTo (One o) (record { begun = true; left = left; at = placeOf bs rest })
+stepObject bs p left (no n) = stepTo (Refused n) p
+
+-- one call at the place p, where left objects are left and the next one begins at `at`.
+-- "After the last it says end, or 9 if bytes remain"
+unfoldable pub stepFrom : List ℕ → Place → ℕ → ℕ → Stepped
+stepFrom bs p zero at = stepTo (cond (ltb at (length bs)) (Refused (pos 9)) End) p
+stepFrom bs p (suc left) at = stepObject bs p left (readObject (drop at bs))
+
+abbrev pub stepCounted : List ℕ → Place → Reading ℕ → Stepped
+stepCounted bs p (got n rest) = stepFrom bs p n (placeOf bs rest)
+stepCounted bs p (no n) = stepTo (Refused n) p
+
+unfoldable pub stepOf : List ℕ → Place → Stepped
+stepOf bs p = cond (p .begun) (stepFrom bs p (p .left) (p .at)) (stepCounted bs p (readCount bs))
+
+-- a call of a reader: the same bytes, at the place after the step
+abbrev pub takenOf : Reader → Taken
+takenOf r =
+    record {
+      reader = record { bytes = r .bytes; place = stepOf (now (r .bytes)) (r .place) .place };
+      item = stepOf (now (r .bytes)) (r .place) .item;
+    }
+
+-- what call number k gives, where the first call (number 0) is at the place p
+unfoldable pub callFrom : List ℕ → Place → ℕ → Item
+callFrom bs p zero = stepOf bs p .item
+callFrom bs p (suc k) = callFrom bs (stepOf bs p .place) k
+
+-- the objects of a drawing in order, and then its end or its refusal
+abbrev pub endOf : ℤ → Item
+endOf n = cond (eqZ n (pos 0)) End (Refused n)
+
+unfoldable pub itemOf : Drawing → ℕ → Item
+itemOf d k = cond (ltb (k * width) (length (d .objects))) (One (objectAt (d .objects) (k * width))) (endOf (d .refusal))
+
+-- what an item says, as the paper's numbers: 0 and the five of an object, nothing at the end, the number of a refusal
+abbrev pub itemSays : Item → List ℤ
+itemSays (One o) = pos 0 ∷ objectNumbers o
+itemSays End = []
+itemSays (Refused n) = n ∷ []

@@ -1,0 +1,186 @@
+-- What calling a reader again and again gives. To cite:
+--   calls-give   call number k of a reader gives the object number k of the drawing; after the last, always the end or the refusal
+--   keeps        "end and refusal keep its place, so the next call says the same"
+--   item-one     no two items say the same numbers
+-- Assumes nothing.
+use mathlib.Core.Path.{_≡_, refl, sym, ap, _∙_}
+use mathlib.Core.Bool.{Bool, true, false, cond}
+use mathlib.Core.List.{List, _++_}
+use Prim.Native.Nat.{ℕ, zero, suc, _+_, _*_, _-_, _<_, _≤_}
+use native.Mathlib.Omega.{arith}
+use borrow.Author.Tests.{lt-ltb, le-ltb, ltb-true, ltb-false}
+use lib.Dec.{ltb}
+use lib.IntN.{ℤ, pos}
+use lib.ListN.{length, getD, drop, length-append, length-drop}
+use lib.Seq.{drop-drop, drop-at, getD-append-add}
+use Rattle.sheet.specs.declared.Object.{Object}
+use Rattle.sheet.specs.Answers.{objectNumbers}
+use Rattle.store.specs.declared.Place.{Place}
+use Rattle.store.specs.declared.Item.{Item}
+use Rattle.store.specs.declared.Item.the-variants.{One, End, Refused}
+use Rattle.store.specs.declared.Stepped.{Stepped}
+use Rattle.store.specs.Stored.{width, Drawing, Reading, got, no, refused, before, andThen, counted, readObject, readObjects, readCount, readDrawing}
+use Rattle.store.specs.Reader.{startPlace, placeOf, stepTo, stepObject, stepFrom, stepCounted, stepOf, callFrom, endOf, itemOf, itemSays}
+use Rattle.store.specs.SureLaws.{Sure, sure-object, sure-count}
+use Rattle.store.specs.SureLaws as sure
+use Rattle.store.specs.ObjectsLaws.{objects-end, objects-over}
+use Rattle.store.specs.StepLaws.{first-call}
+
+numbers-one : (a b : Object) → objectNumbers a ≡ objectNumbers b → a ≡ b
+numbers-one a b e =
+    let e1 : a .kind ≡ b .kind = cc in
+    let e2 : a .px ≡ b .px = cc in
+    let e3 : a .py ≡ b .py = cc in
+    let e4 : a .qx ≡ b .qx = cc in
+    let e5 : a .qy ≡ b .qy = cc in
+    λ i. record { kind = e1 i; px = e2 i; py = e3 i; qx = e4 i; qy = e5 i }
+
+-- ---- the items of a drawing
+
+item-none : (n : ℤ) (k : ℕ) → itemOf (refused n) k ≡ endOf n
+unfolding itemOf
+item-none n k = simp (le-ltb (k * width) 0 (omega arith))
+
+item-first : (o : Object) (d : Drawing) → itemOf (before o d) 0 ≡ One o
+unfolding itemOf
+item-first o d = simp (lt-ltb 0 (length (objectNumbers o ++ d .objects)) (omega arith))
+
+shift : (a b : ℕ) → ltb (width + a) (width + b) ≡ ltb a b
+shift a b = go (ltb a b) (ltb-true a b) (ltb-false a b)
+  where
+    go : (t : Bool) → (t ≡ true → a < b) → (t ≡ false → b ≤ a) → ltb (width + a) (width + b) ≡ t
+    go true y m = let h = y refl in lt-ltb (width + a) (width + b) (omega arith)
+    go false y m = let h = m refl in le-ltb (width + a) (width + b) (omega arith)
+
+item-next : (o : Object) (d : Drawing) (k : ℕ) → itemOf (before o d) (suc k) ≡ itemOf d k
+unfolding itemOf
+item-next o d k =
+    let l = d .objects in
+    let row = objectNumbers o in
+    let at : (j : ℕ) → getD (row ++ l) (suc k * width + j) (pos 0) ≡ getD l (k * width + j) (pos 0) =
+    λ j. let e : suc k * width + j ≡ width + (k * width + j) = omega arith in
+    ap (λ (i : ℕ). getD (row ++ l) i (pos 0)) e ∙ getD-append-add row l (k * width + j) (pos 0) in
+    let front : getD (row ++ l) (suc k * width) (pos 0) ≡ getD l (k * width) (pos 0) =
+    let e : suc k * width ≡ suc k * width + 0 = omega arith in
+    let f : k * width + 0 ≡ k * width = omega arith in
+    ap (λ (i : ℕ). getD (row ++ l) i (pos 0)) e ∙ at 0 ∙ ap (λ (i : ℕ). getD l i (pos 0)) f in
+    let five : suc k * width ≡ width + k * width = omega arith in
+    let long : length (row ++ l) ≡ width + length l = omega (arith, length-append row l) in
+    let test : ltb (suc k * width) (length (row ++ l)) ≡ ltb (k * width) (length l) = (λ i. ltb (five i) (long i)) ∙ shift (k * width)
+    (length l) in
+    λ i. cond (test i)
+    (One (record { kind = front i; px = at 1 i; py = at 2 i; qx = at 3 i; qy = at 4 i })) (endOf (d .refusal))
+
+-- ---- calls
+
+-- a call that keeps the place says the same for ever
+stays : (bs : List ℕ) (p : Place) (i : Item) → stepOf bs p ≡ stepTo i p → (k : ℕ) → callFrom bs p k ≡ i
+unfolding callFrom
+stays bs p i e zero = ap (λ (s : Stepped). s .item) e
+stays bs p i e (suc k) = ap (λ (s : Stepped). callFrom bs (s .place) k) e ∙ stays bs p i e k
+
+call-next : (bs : List ℕ) (p : Place) (k : ℕ) → callFrom bs p (suc k) ≡ callFrom bs (stepOf bs p .place) k
+unfolding callFrom
+call-next bs p k = refl
+
+step-begun : (bs : List ℕ) (left at : ℕ) → let p : Place = record { begun = true; left = left; at = at } in stepOf bs p
+    ≡ stepFrom bs p left at
+unfolding stepOf
+step-begun bs left at = refl
+
+-- where the rest begins
+rest-at : (bs front rest : List ℕ) (at : ℕ) → at ≤ length bs → drop at bs ≡ front ++ rest
+    → (placeOf bs rest ≤ length bs) × (drop (placeOf bs rest) bs ≡ rest)
+rest-at bs front rest at h e =
+    let long = ap length e ∙ length-append front rest in
+    let place : placeOf bs rest ≡ at + length front = omega (arith, length-drop at bs) in (
+      omega arith,
+      ap (λ (k : ℕ). drop k bs) place ∙ sym (drop-drop (length front) at bs) ∙ ap (drop (length front)) e ∙ drop-at front rest
+          (length front) refl,
+    )
+
+runs :
+    (left : ℕ) (bs : List ℕ) (at : ℕ) (p : Place) → at ≤ length bs → stepOf bs p ≡ stepFrom bs p left at → (k : ℕ)
+    → callFrom bs p k ≡ itemOf (readObjects left (drop at bs)) k
+unfolding stepFrom readObjects
+runs zero bs at p h e k = go (ltb at (length bs)) (ltb-true at (length bs)) (ltb-false at (length bs)) e
+  where
+    go : (t : Bool) → (t ≡ true → at < length bs) → (t ≡ false → length bs ≤ at) → stepOf bs p ≡ stepTo (cond t (Refused (pos 9)) End) p
+        → callFrom bs p k ≡ itemOf (readObjects 0 (drop at bs)) k
+    go true y m e =
+        let l = y refl in
+        stays bs p (Refused (pos 9)) e k
+        ∙ sym (ap (λ (d : Drawing). itemOf d k) (objects-over (drop at bs) (omega (arith, length-drop at bs))) ∙ item-none (pos 9) k)
+    go false y m e =
+        let l = m refl in
+        stays bs p End e k
+        ∙ sym (ap (λ (d : Drawing). itemOf d k) (objects-end (drop at bs) (omega (arith, length-drop at bs))) ∙ item-none (pos 0) k)
+runs (suc left) bs at p h e k = go (sure-object (drop at bs)) (runs left bs) e k
+  where
+    go : {r : Reading Object} → Sure (drop at bs) r
+        → ((at : ℕ) (p : Place) → at ≤ length bs → stepOf bs p ≡ stepFrom bs p left at → (k : ℕ)
+        → callFrom bs p k ≡ itemOf (readObjects left (drop at bs)) k)
+        → stepOf bs p ≡ stepObject bs p left r → (k : ℕ) → callFrom bs p k ≡ itemOf (andThen r (λ rest. readObjects left rest)) k
+    go (sure.refused n z) more e k = stays bs p (Refused n) e k ∙ sym (item-none n k ∙ simp z)
+    go (sure.read o front rest f) more e zero =
+        sym (first-call bs p) ∙ ap (λ (s : Stepped). s .item) e ∙ sym (item-first o (readObjects left rest))
+    go (sure.read o front rest f) more e (suc k) =
+        let there = rest-at bs front rest at h f in
+        let on : Place = record { begun = true; left = left; at = placeOf bs rest } in
+        call-next bs p k
+        ∙ ap (λ (s : Stepped). callFrom bs (s .place) k) e
+        ∙ more (placeOf bs rest) on (there .0) (step-begun bs left (placeOf bs rest)) k
+        ∙ ap (λ (l : List ℕ). itemOf (readObjects left l) k) (there .1)
+        ∙ sym (item-next o (readObjects left rest) k)
+
+-- "calling it again and again gives exactly the objects of the drawing in order and then end, or the objects before the refusal and then
+-- that refusal"
+pub calls-give : (bs : List ℕ) (k : ℕ) → callFrom bs startPlace k ≡ itemOf (readDrawing bs) k
+unfolding readDrawing stepOf
+calls-give bs k = go (sure-count bs) refl
+  where
+    go : {r : Reading ℕ} → Sure bs r → stepOf bs startPlace ≡ stepCounted bs startPlace r → callFrom bs startPlace k ≡ itemOf (counted r) k
+    go (sure.refused n z) e = stays bs startPlace (Refused n) e k ∙ sym (item-none n k ∙ simp z)
+    go (sure.read n front rest f) e =
+        let there = rest-at bs front rest 0 (omega arith) f in
+        runs n bs (placeOf bs rest) startPlace (there .0) e k ∙ ap (λ (l : List ℕ). itemOf (readObjects n l) k) (there .1)
+
+-- ---- the end and a refusal
+
+kept : (bs : List ℕ) (p : Place) (left : ℕ) (r : Reading Object)
+    → ((o : Object) → stepObject bs p left r .item ≡ One o → ⊥) → stepObject bs p left r .place ≡ p
+kept bs p left (got o rest) h = absurd (h o refl)
+kept bs p left (no n) h = refl
+
+kept-from : (bs : List ℕ) (p : Place) (left at : ℕ) → ((o : Object) → stepFrom bs p left at .item ≡ One o → ⊥)
+    → stepFrom bs p left at .place ≡ p
+unfolding stepFrom
+kept-from bs p zero at h = refl
+kept-from bs p (suc left) at h = kept bs p left (readObject (drop at bs)) h
+
+kept-counted : (bs : List ℕ) (p : Place) (r : Reading ℕ) → ((o : Object) → stepCounted bs p r .item ≡ One o → ⊥)
+    → stepCounted bs p r .place ≡ p
+kept-counted bs p (got n rest) h = kept-from bs p n (placeOf bs rest) h
+kept-counted bs p (no n) h = refl
+
+pub keeps : (bs : List ℕ) (p : Place) → ((o : Object) → stepOf bs p .item ≡ One o → ⊥) → stepOf bs p .place ≡ p
+unfolding stepOf
+keeps bs p h = go (p .begun) h
+  where
+    go : (t : Bool) → ((o : Object) → cond t (stepFrom bs p (p .left) (p .at)) (stepCounted bs p (readCount bs)) .item ≡ One o → ⊥)
+        → cond t (stepFrom bs p (p .left) (p .at)) (stepCounted bs p (readCount bs)) .place ≡ p
+    go true h = kept-from bs p (p .left) (p .at) h
+    go false h = kept-counted bs p (readCount bs) h
+
+-- ---- no two items say the same
+
+pub item-one : (a b : Item) → itemSays a ≡ itemSays b → a ≡ b
+item-one (One o) (One p) e = let f : objectNumbers o ≡ objectNumbers p = cc in ap One (numbers-one o p f)
+item-one (One o) End e = let z : _≡_ {A = ℕ} 0 1 = cc in absurd (omega arith)
+item-one (One o) (Refused n) e = let z : _≡_ {A = ℕ} 0 1 = cc in absurd (omega arith)
+item-one End (One p) e = let z : _≡_ {A = ℕ} 0 1 = cc in absurd (omega arith)
+item-one End End e = refl
+item-one End (Refused n) e = let z : _≡_ {A = ℕ} 0 1 = cc in absurd (omega arith)
+item-one (Refused n) (One p) e = let z : _≡_ {A = ℕ} 0 1 = cc in absurd (omega arith)
+item-one (Refused n) End e = let z : _≡_ {A = ℕ} 0 1 = cc in absurd (omega arith)
+item-one (Refused n) (Refused m) e = let f : n ≡ m = cc in ap Refused f

@@ -1,0 +1,123 @@
+-- Demand 2 on bytes: "An accepted stored drawing read and written again has the same bytes; a drawing written and read again has the same
+-- objects in the same order, first point first." To cite:
+--   read-written   what was written is read as it was
+--   written-read   what was read is written as it was, and is an accepted list
+--   same-bytes     two drawings with the same objects have the same bytes
+-- Assumes nothing.
+use mathlib.Core.Path.{_≡_, refl, sym, ap, _∙_}
+use mathlib.Core.Bool.{Bool, true, false, cond}
+use mathlib.Core.List.{List, [], _∷_, _++_}
+use Prim.Native.Nat.{ℕ, zero, suc, _+_, _*_, _-_, _/_, _%_, _<_, _≤_}
+use native.Mathlib.Omega.{arith}
+use borrow.Author.Tests.{le-ltb, ltb-false}
+use lib.Dec.{ltb}
+use lib.IntN.{ℤ, pos}
+use lib.ListN.{length}
+use Rattle.whole.specs.Tests.{eqZ, eqZ-true, eqZ-false, eq-eqZ}
+use Rattle.sheet.specs.declared.Object.{Object}
+use Rattle.sheet.specs.Limits.{most}
+use Rattle.sheet.specs.Refusal.{objectRefusal}
+use Rattle.sheet.specs.Signs.{orElse}
+use Rattle.store.specs.Stored.{numberLimit, width, Drawing, Reading, next, checked, refused, before, andThen, counted, writeNumber, writeObject, writeObjects, writeDrawing, objectsRefusal, listRefusal, readObjects, readCount, readDrawing}
+use Rattle.store.specs.SureLaws.{Sure, sure-object, sure-count}
+use Rattle.store.specs.SureLaws as sure
+use Rattle.store.specs.ObjectsLaws.{objects-length}
+use Rattle.store.specs.ListLaws.{list-fine}
+use Rattle.store.specs.Trip.{Bytes, behind-bytes, From, from, not, number-back, number-from}
+use Rattle.store.specs.ObjectTrip.{object-back, object-from}
+
+abbrev taken : List ℤ → Drawing
+taken l = record { objects = l; refusal = pos 0 }
+
+or-zero : (n m : ℤ) → orElse n m ≡ pos 0 → (n ≡ pos 0) × (m ≡ pos 0)
+or-zero n m e = go (eqZ n (pos 0)) (λ z. eqZ-true z) (λ z. eqZ-false z) e
+  where
+    go : (t : Bool) → (t ≡ true → n ≡ pos 0) → (t ≡ false → n ≡ pos 0 → ⊥) → cond t m n ≡ pos 0 → (n ≡ pos 0) × (m ≡ pos 0)
+    go true y z e = (y refl, e)
+    go false y z e = absurd (z refl e)
+
+-- ---- written, and then read
+
+objects-back : (n : ℕ) (l : List ℤ) → length l ≡ n * width → objectsRefusal n l ≡ pos 0 → readObjects n (writeObjects n l) ≡ taken l
+unfolding objectsRefusal readObjects writeObjects
+objects-back zero [] e h = refl
+objects-back zero (a ∷ l) e h = absurd (omega arith)
+objects-back (suc n) [] e h = absurd (omega arith)
+objects-back (suc n) (a ∷ []) e h = absurd (omega arith)
+objects-back (suc n) (a ∷ b ∷ []) e h = absurd (omega arith)
+objects-back (suc n) (a ∷ b ∷ c ∷ []) e h = absurd (omega arith)
+objects-back (suc n) (a ∷ b ∷ c ∷ d ∷ []) e h = absurd (omega arith)
+objects-back (suc n) (a ∷ b ∷ c ∷ d ∷ f ∷ l) e h =
+    let o : Object = record { kind = a; px = b; py = c; qx = d; qy = f } in
+    let z = or-zero (objectRefusal o) (objectsRefusal n l) h in
+    ap (λ (r : Reading Object). andThen r (λ rest. readObjects n rest)) (object-back o (writeObjects n l) (z .0))
+    ∙ ap (before o) (objects-back n l (omega arith) (z .1))
+
+pub read-written : (l : List ℤ) → listRefusal l ≡ pos 0 → readDrawing (writeDrawing l) ≡ taken l
+unfolding readDrawing readCount writeDrawing
+read-written l h =
+    let f = list-fine l h in
+    let n = length l / width in
+    simp (number-back n (writeObjects n l) (omega (arith, f .few)), le-ltb 512 n (f .few))
+    (objects-back n l (sym (f .whole)) (f .each))
+
+-- ---- read, and then written
+
+objects-from :
+    (n : ℕ) (bs : List ℕ) → Bytes bs → readObjects n bs .refusal ≡ pos 0
+    → (writeObjects n (readObjects n bs .objects) ≡ bs) × (objectsRefusal n (readObjects n bs .objects) ≡ pos 0)
+unfolding objectsRefusal readObjects writeObjects objectRefusal
+objects-from zero [] h e = (refl, refl)
+objects-from zero (b ∷ bs) h e = absurd (eqZ-false {a = pos 9} {b = pos 0} refl e)
+objects-from (suc n) bs h e = go (object-from bs h) (sure-object bs) (objects-from n) e
+  where
+    go : {r : Reading Object} → From writeObject (λ o. objectRefusal o ≡ pos 0) bs r → Sure bs r
+        → ((rest : List ℕ) → Bytes rest → readObjects n rest .refusal ≡ pos 0
+        → (writeObjects n (readObjects n rest .objects) ≡ rest) × (objectsRefusal n (readObjects n rest .objects) ≡ pos 0))
+        → andThen r (λ rest. readObjects n rest) .refusal ≡ pos 0
+        → (writeObjects (suc n) (andThen r (λ rest. readObjects n rest) .objects) ≡ bs)
+        × (objectsRefusal (suc n) (andThen r (λ rest. readObjects n rest) .objects) ≡ pos 0)
+    go (from o rest p f) s behind e =
+        let k = behind rest (behind-bytes (writeObject o) f h) e in
+        (ap (λ (l : List ℕ). writeObject o ++ l) (k .0) ∙ sym f, simp (eq-eqZ p) (k .1))
+    go (not n) (sure.refused m z) behind e = absurd (eqZ-false z e)
+
+count-from : (bs : List ℕ) → Bytes bs → From writeNumber (λ n. n ≤ 512) bs (readCount bs)
+unfolding readCount
+count-from bs h = go (number-from bs h)
+  where
+    go : {r : Reading ℕ} → From writeNumber (λ n. n < numberLimit) bs r
+        → From writeNumber (λ n. n ≤ 512) bs (next r (λ n rest. checked (ltb most n) (pos 11) n rest))
+    go (not n) = not n
+    go (from n rest p e) = second (ltb most n) (ltb-false most n)
+      where
+        second : (t : Bool) → (t ≡ false → n ≤ 512) → From writeNumber (λ n. n ≤ 512) bs (checked t (pos 11) n rest)
+        second true y = not (pos 11)
+        second false y = from n rest (y refl) e
+
+pub record Again (bs : List ℕ) (d : Drawing) : Type 0 where
+  pub again : writeDrawing (d .objects) ≡ bs
+  pub accepted : listRefusal (d .objects) ≡ pos 0
+
+pub written-read : (bs : List ℕ) → Bytes bs → readDrawing bs .refusal ≡ pos 0 → Again bs (readDrawing bs)
+unfolding readDrawing writeDrawing listRefusal
+written-read bs h e = go (count-from bs h) (sure-count bs) e
+  where
+    go : {r : Reading ℕ} → From writeNumber (λ n. n ≤ 512) bs r → Sure bs r → counted r .refusal ≡ pos 0 → Again bs (counted r)
+    go (from n rest p f) s e =
+        let l = readObjects n rest .objects in
+        let k = objects-from n rest (behind-bytes (writeNumber n) f h) e in
+        let long = objects-length n rest e in
+        let count : length l / width ≡ n = omega arith in
+        let five : length l % width ≡ 0 = omega arith in
+        record {
+          again = (λ i. writeNumber (count i) ++ writeObjects (count i) l) ∙ ap (λ (x : List ℕ). writeNumber n ++ x) (k .0) ∙ sym f;
+          accepted = simp (five, count, le-ltb 512 n p) (k .1);
+        }
+    go (not n) (sure.refused m z) e = absurd (eqZ-false z e)
+
+-- "two drawings with the same objects have the same bytes"
+pub same-bytes :
+    (a b : List ℕ) → Bytes a → Bytes b → readDrawing a .refusal ≡ pos 0 → readDrawing b .refusal ≡ pos 0
+    → readDrawing a .objects ≡ readDrawing b .objects → a ≡ b
+same-bytes a b p q x y e = sym (written-read a p x .again) ∙ ap writeDrawing e ∙ written-read b q y .again

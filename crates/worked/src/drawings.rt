@@ -1,0 +1,92 @@
+// Stored drawings: read, checked and written, with the lent cells shown. A cell that holds 7 has not been touched.
+use crate::say;
+
+const UNTOUCHED: i64 = 7;
+
+// The answer, and the six cells of a lent list after the call: room for one object, and one cell more.
+fn read(bytes: &[u8]) {
+    let mut list = [UNTOUCHED; 6];
+    let read = store::read_drawing(bytes, &mut list);
+    say::number(read.refusal);
+    say::count(read.count as u64);
+    say::count(read.length as u64);
+    say::text(b" cells");
+    say::number(list[0]);
+    say::number(list[1]);
+    say::number(list[2]);
+    say::number(list[3]);
+    say::number(list[4]);
+    say::number(list[5]);
+    say::end();
+}
+
+// The answer, and four lent bytes after the call.
+fn write(list: &[i64]) {
+    let mut bytes = [7u8; 4];
+    let written = store::write_drawing(list, &mut bytes);
+    say::number(written.refusal);
+    say::count(written.length as u64);
+    say::text(b" bytes");
+    say::byte(bytes[0]);
+    say::byte(bytes[1]);
+    say::byte(bytes[2]);
+    say::byte(bytes[3]);
+    say::end();
+}
+
+pub fn reading() {
+    say::text(b"stored 4000");
+    read(&[1, 1, 0xa0, 0x1f, 0, 0, 0]);
+    say::text(b"stored 4001");
+    read(&[1, 1, 0xa1, 0x1f, 0, 0, 0]);
+    say::text(b"80 00");
+    read(&[0x80, 0]);
+    say::text(b"80 80");
+    read(&[0x80, 0x80]);
+    say::text(b"80");
+    read(&[0x80]);
+    say::text(b"no bytes");
+    read(&[]);
+    say::text(b"00");
+    read(&[0]);
+    say::text(b"kind 5");
+    read(&[1, 5]);
+    say::text(b"side 5");
+    read(&[1, 4, 5]);
+    say::text(b"p equals q");
+    read(&[1, 2, 3, 3, 3, 3]);
+    say::text(b"a byte after the last");
+    read(&[1, 4, 2, 0]);
+    say::text(b"two objects, room for one");
+    read(&[2, 4, 1, 4, 2]);
+}
+
+// 512 objects are taken and 513 refused. Every byte after the count is a 4: the side 4, again and again.
+pub fn limits() {
+    let mut most = [4u8; 1026];
+    most[0] = 0x80;
+    most[1] = 4;
+    say::text(b"512 objects");
+    say::number(store::check_drawing(&most));
+    say::end();
+    most[0] = 0x81;
+    say::text(b"513 objects");
+    say::number(store::check_drawing(&most));
+    say::end();
+}
+
+pub fn writing() {
+    say::text(b"write side 3");
+    write(&[4, 3, 0, 0, 0]);
+    say::text(b"write nothing");
+    write(&[]);
+    say::text(b"write six numbers");
+    write(&[4, 3, 0, 0, 0, 1]);
+    say::text(b"write kind 9");
+    write(&[9, 0, 0, 0, 0]);
+    say::text(b"write a segment in four bytes");
+    write(&[1, 0, 0, 1, 1]);
+    let many = [4i64; 2565];
+    say::text(b"write 513 objects");
+    write(&many);
+}

@@ -1,0 +1,70 @@
+"""Random sheets, each kind of them made to meet another corner of the rules; and bytes damaged on their way."""
+import random
+import reference
+
+
+def pair(rng, reach):
+    while True:
+        numbers = [rng.randint(-reach, reach) for _ in range(4)]
+        if numbers[:2] != numbers[2:]:
+            return numbers
+
+
+def objects(rng, reach, kinds, most):
+    made = []
+    for _ in range(rng.randint(0, most)):
+        kind = rng.choice(kinds)
+        made.append((4, rng.randint(1, 4), 0, 0, 0) if kind == 4 else (kind, *pair(rng, reach)))
+    return made
+
+
+def diagonal(rng, most):
+    """Lines at 45 degrees, many into corners, on few levels."""
+    made = []
+    for _ in range(rng.randint(0, most)):
+        x, y, step = rng.randint(-2, 2), rng.randint(-2, 2), rng.choice((-3, -1, 1, 2))
+        made.append((rng.choice((1, 2, 3)), x, y, x + step, y + rng.choice((step, -step))))
+    return made + [(4, n, 0, 0, 0) for n in range(1, 5)]
+
+
+def chain(rng, most):
+    """Segments joined end to end, some running back over themselves."""
+    x, y, made = 0, 0, []
+    for _ in range(rng.randint(1, most)):
+        dx, dy = rng.choice(((1, 0), (0, 1), (-1, 0), (2, 0), (1, 1), (-1, 1)))
+        made.append((rng.choice((1, 1, 1, 2)), x, y, x + dx, y + dy))
+        x, y = x + dx, y + dy
+    return made
+
+
+def sheet(rng):
+    which = rng.randrange(6)
+    if which == 0:
+        return objects(rng, 2, (1, 2, 3), 10)
+    if which == 1:
+        return objects(rng, 3, (1, 2, 3, 4), 10)
+    if which == 2:
+        return objects(rng, reference.REACH, (1, 2, 3, 4), 8)
+    if which == 3:
+        return diagonal(rng, 6)
+    if which == 4:
+        return chain(rng, 9)
+    return objects(rng, 40, (3, 4), 8)
+
+
+def damaged(rng, data):
+    """Bytes cut off, added, or changed; often at a number's top bit."""
+    data = bytearray(data)
+    for _ in range(rng.randint(1, 2)):
+        what = rng.randrange(5)
+        if what == 0 and data:
+            del data[rng.randrange(len(data)):]
+        elif what == 1:
+            data += bytes(rng.choice((0, 1, 4, 127, 128, 255)) for _ in range(rng.randint(1, 3)))
+        elif what == 2 and data:
+            data[rng.randrange(len(data))] ^= 1 << rng.randrange(8)
+        elif what == 3 and data:
+            data[rng.randrange(len(data))] |= 128
+        else:
+            data[:1] = reference.write_number(rng.choice((0, 511, 512, 513, 1000, 16383)))
+    return bytes(data)
