@@ -64,11 +64,28 @@ static void fail(const char *what) { fprintf(stderr, "measure: %s\n", what); exi
         if (t == 0 || c - b < second) second = c - b;                     \
     }
 
+#ifdef WITH_CGAL
+int64_t cgal_list(const int64_t *list, size_t length);
+
+/* how many times as long CGAL takes; one turn of it is long enough */
+static void beside_cgal(int64_t count, double ours)
+{
+    double began = now();
+    if (cgal_list(list, NUMBERS) != count) fail("CGAL finds another number of pairs");
+    double took = now() - began;
+    printf(" %12.2f %7.1f", took / PAIRS, took / ours);
+}
+#define CGAL_COLUMNS "         CGAL  faster"
+#else
+static void beside_cgal(int64_t count, double ours) { (void)count, (void)ours; }
+#define CGAL_COLUMNS ""
+#endif
+
 int main(void)
 {
     static const struct { const char *name; void (*make)(int64_t *, int); } kinds[] = {
         {"uniform", uniform}, {"lines only", lines}, {"grid", grid}, {"chains", chains}, {"with sides", sides}};
-    printf("%-12s %9s %12s %12s %7s\n", "listing", "rows", "ns a pair", "plain C", "ratio");
+    printf("%-12s %9s %12s %12s %7s%s\n", "listing", "rows", "ns a pair", "plain C", "ratio", CGAL_COLUMNS);
     for (size_t k = 0; k < sizeof kinds / sizeof *kinds; k++) {
         double ours = 0, plain = 0;
         for (int i = 0; i < MOST; i++) kinds[k].make(list + WIDTH * i, i);
@@ -77,7 +94,9 @@ int main(void)
         if (n < 0 || silvanelga_measure_list(list, NUMBERS, rows, ROW * PAIRS) != 0) fail("a sheet was refused");
         if (memcmp(rows, other, sizeof rows) != 0) fail("the two listings differ");
         RACE(silvanelga_measure_list(list, NUMBERS, rows, ROW * PAIRS), plain_list(list, NUMBERS, other, ROW * PAIRS), ours, plain)
-        printf("%-12s %9lld %12.2f %12.2f %7.2f\n", kinds[k].name, (long long)n, ours / PAIRS, plain / PAIRS, ours / plain);
+        printf("%-12s %9lld %12.2f %12.2f %7.2f", kinds[k].name, (long long)n, ours / PAIRS, plain / PAIRS, ours / plain);
+        beside_cgal(n, ours);
+        printf("\n");
     }
 
     double ours = 0, plain = 0;
