@@ -10,7 +10,7 @@ int64_t silvanelga_measure_list(const int64_t *list, size_t length, int64_t *row
 int64_t silvanelga_measure_read(const uint8_t *bytes, size_t length, int64_t *list, size_t room);
 int64_t silvanelga_measure_write(const int64_t *list, size_t length, uint8_t *bytes, size_t room);
 
-enum { NUMBERS = WIDTH * MOST, PAIRS = MOST * (MOST - 1) / 2, BYTES = 2 + 9 * MOST, TURNS = 25 };
+enum { NUMBERS = WIDTH * MOST, PAIRS = MOST * (MOST - 1) / 2, BYTES = 2 + 9 * MOST, TURNS = 25, CGAL_TURNS = 7 };
 
 static int64_t list[NUMBERS], back[NUMBERS], rows[ROW * PAIRS], other[ROW * PAIRS];
 static uint8_t bytes[BYTES], again[BYTES];
@@ -67,13 +67,17 @@ static void fail(const char *what) { fprintf(stderr, "measure: %s\n", what); exi
 #ifdef WITH_CGAL
 int64_t cgal_list(const int64_t *list, size_t length);
 
-/* how many times as long CGAL takes; one turn of it is long enough */
+/* how many times as long CGAL takes, by the least of its turns too */
 static void beside_cgal(int64_t count, double ours)
 {
-    double began = now();
-    if (cgal_list(list, NUMBERS) != count) fail("CGAL finds another number of pairs");
-    double took = now() - began;
-    printf(" %12.2f %7.1f", took / PAIRS, took / ours);
+    double least = 0;
+    for (int t = 0; t < CGAL_TURNS; t++) {
+        double began = now();
+        if (cgal_list(list, NUMBERS) != count) fail("CGAL finds another number of pairs");
+        double took = now() - began;
+        if (t == 0 || took < least) least = took;
+    }
+    printf(" %12.2f %7.1f", least / PAIRS, least / ours);
 }
 #define CGAL_COLUMNS "         CGAL  faster"
 #else
