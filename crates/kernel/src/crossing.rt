@@ -28,10 +28,12 @@ fn meet(
     ensures { λ r. ⌜ crossingSays r ≡ pos 0 ∷ meetingNumbers (crossingOf (object ka px py qx qy) (object kb rx ry sx sy)) ⌝ }
 {
     if ka == Object::SIDE {
-        return with_side(px, kb, rx, ry, sx, sy);
+        let found = with_side(px, kb, rx, ry, sx, sy);
+        return found;
     }
     if kb == Object::SIDE {
-        return with_side(rx, ka, px, py, qx, qy);
+        let found = with_side(rx, ka, px, py, qx, qy);
+        return found;
     }
     cross_pieces(ka, px, py, qx, qy, kb, rx, ry, sx, sy)
 }

@@ -48,6 +48,6 @@ module _ (n room : ℕ) where
   pub lacks-none : n * rowWidth ≤ room → 0 ≡ lacking n room
   lacks-none h = simp (le-ltb room (n * rowWidth) h)
 
-  -- the same count by the code
-  pub lacks : (m : ℕ) → m ≡ n → room < m * rowWidth → m * rowWidth ≡ lacking n room
-  lacks m e h = let k : room < n * rowWidth = omega arith in simp (lt-ltb room (n * rowWidth) k) (ap (λ (i : ℕ). i * rowWidth) e)
+  -- the same length by the code
+  pub lacks : (m : ℕ) → m ≡ n * rowWidth → room < m → m ≡ lacking n room
+  lacks m e h = simp (lt-ltb room (n * rowWidth) (omega arith)) e

@@ -1,8 +1,8 @@
 // The whole list: the rows of object 0, of object 1, .., one after another.
 use crate::OBJECT_WIDTH;
 use crate::ROW_WIDTH;
-use crate::rows::count_with;
 use crate::rows::put_rows_with;
+use crate::rows::size_with;
 ghost use mathlib.Core.Path.{_≡_};
 ghost use Prim.Native.Nat.{_≤_};
 ghost use lib.ListN.{length};
@@ -28,20 +28,20 @@ pub fn put_rows(list: &[i64], out: &mut [i64]) -> usize
     next
 }
 
-// How many pairs share something.
-fn count_rows(list: &[i64]) -> usize
+// How many numbers all rows are.
+fn size_of_rows(list: &[i64]) -> usize
     requires { ⌜ Listable (now list) ⌝ }
-    ensures { λ r. ⌜ r ≡ sharing (now (list .entry)) ⌝ }
+    ensures { λ r. ⌜ r ≡ length (rowsOf (now (list .entry))) ⌝ }
 {
     let n = list.len() / OBJECT_WIDTH;
-    let mut count = 0;
+    let mut size = 0;
     let mut i = 0;
     while i < n {
-        let one = count_with(list, i);
-        count += one;
+        let one = size_with(list, i);
+        size += one;
         i += 1;
     }
-    count
+    size
 }
 
 // 0 where all rows have room, else the length that they need. Where there is room for every pair, nothing is counted.
@@ -56,8 +56,7 @@ pub fn lacking_room(list: &[i64], room: usize) -> usize
     if every <= room {
         return 0;
     }
-    let count = count_rows(list);
-    let need = count * ROW_WIDTH;
+    let need = size_of_rows(list);
     if need <= room {
         return 0;
     }

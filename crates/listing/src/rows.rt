@@ -1,28 +1,32 @@
-// Rows: what two objects of a list share, written into a lent list or only counted.
+// Rows: what two objects of a list share, written into a lent list.
 use crate::OBJECT_WIDTH;
 use crate::ROW_WIDTH;
 use crate::objects::object_at;
 use sheet::Crossing;
+use sheet::Object;
 ghost use mathlib.Core.Path.{_≡_};
-ghost use mathlib.Core.Bool.{cond};
 ghost use mathlib.Core.List.{[], _∷_};
 ghost use Prim.Native.Nat.{_+_, _<_, _≤_};
 ghost use lib.IntN.{pos};
 ghost use lib.ListN.{length};
 ghost use lib.Seq.{sets};
 ghost use Rattle.sheet.specs.Limits.{most};
-ghost use Rattle.listing.specs.Lists.{countOf};
+ghost use Rattle.sheet.specs.Refusal.{Accepted};
+ghost use Rattle.sheet.specs.Crossing.{crossingOf};
+ghost use Rattle.listing.specs.Lists.{countOf, objectAt};
 ghost use Rattle.listing.specs.ListsLaws.{Listable, Pair};
-ghost use Rattle.listing.specs.Rows.{rowWidth, meetingOf, rowOf, rowsWith, isSome, sharingWith};
+ghost use Rattle.listing.specs.Rows.{rowWidth, rowOf, rowsWith, sharingWith};
 ghost use Rattle.listing.specs.RowsLaws.{meetingBy};
 ghost use Rattle.listing.specs.ListingLaws.{lacking};
 
-// What objects i and j share.
-fn meet(list: &[i64], i: usize, j: usize) -> Crossing
-    requires { ⌜ Pair (now list) i j ⌝ }
-    ensures { λ r. ⌜ meetingBy r ≡ meetingOf (now (list .entry)) i j ⌝ }
+// The most numbers that the rows of one object are.
+const MOST_WITH: usize = (Object::MOST - 1) * ROW_WIDTH;
+
+// What an object shares with object j.
+fn meet(a: Object, list: &[i64], j: usize) -> Crossing
+    requires { ⌜ Accepted a × (Listable (now list) × (j < countOf (now list))) ⌝ }
+    ensures { λ r. ⌜ meetingBy r ≡ crossingOf a (objectAt (now (list .entry)) j) ⌝ }
 {
-    let a = object_at(list, i);
     let b = object_at(list, j);
     kernel::crossing::cross(a, b)
 }
@@ -58,14 +62,15 @@ fn write_row(
     at + ROW_WIDTH
 }
 
-// The row of objects i and j at a place of the lent list, nothing where they share nothing. Gives the place after it.
-fn put_row(list: &[i64], i: usize, j: usize, out: &mut [i64], at: usize) -> usize
-    requires { ⌜ Pair (now list) i j ⌝ }
+// The row of objects i and j at a place of the lent list, nothing where they share nothing. Gives the place after it. Object i is handed
+// in, since it is the same for many rows.
+fn put_row(a: Object, list: &[i64], i: usize, j: usize, out: &mut [i64], at: usize) -> usize
+    requires { ⌜ Pair (now list) i j × (a ≡ objectAt (now list) i) ⌝ }
     requires { ⌜ at + length (rowOf (now list) i j) ≤ length (now out) ⌝ }
     ensures { λ r. ⌜ r ≡ at + length (rowOf (now (list .entry)) i j) ⌝ }
     ensures { λ r. ⌜ now (out .exit) ≡ sets (now (out .entry)) at (rowOf (now (list .entry)) i j) ⌝ }
 {
-    match meet(list, i, j) {
+    match meet(a, list, j) {
         Crossing::Once(p) => {
             return write_row(out, at, i, j, 1, p.mx, p.nx, p.my, p.ny, p.w);
         }
@@ -89,42 +94,24 @@ pub fn put_rows_with(list: &[i64], i: usize, out: &mut [i64], at: usize) -> usiz
     ensures { λ r. ⌜ now (out .exit) ≡ sets (now (out .entry)) at (rowsWith (now (list .entry)) i) ⌝ }
 {
     let n = list.len() / OBJECT_WIDTH;
+    let a = object_at(list, i);
     let mut next = at;
     let mut j = i + 1;
     while j < n {
-        next = put_row(list, i, j, out, next);
+        next = put_row(a, list, i, j, out, next);
         j += 1;
     }
     next
 }
 
-// 1 where objects i and j share something, else 0.
-fn count_pair(list: &[i64], i: usize, j: usize) -> usize
-    requires { ⌜ Pair (now list) i j ⌝ }
-    ensures { λ r. ⌜ r ≡ cond (isSome (meetingOf (now (list .entry)) i j)) 1 0 ⌝ }
-{
-    match meet(list, i, j) {
-        Crossing::Once(_) => 1,
-        Crossing::Many => 1,
-        Crossing::Nothing => 0,
-        Crossing::Refused(_) => 0,
-    }
-}
-
-// With how many later ones object i shares something.
-pub fn count_with(list: &[i64], i: usize) -> usize
+// How many numbers the rows of object i with all later ones are. They are written where nobody looks: one crossing a pair, and no second
+// way of finding those that share something.
+pub fn size_with(list: &[i64], i: usize) -> usize
     requires { ⌜ Listable (now list) × (i < countOf (now list)) ⌝ }
-    ensures { λ r. ⌜ r ≡ sharingWith (now (list .entry)) i ⌝ }
+    ensures { λ r. ⌜ r ≡ length (rowsWith (now (list .entry)) i) ⌝ }
 {
-    let n = list.len() / OBJECT_WIDTH;
-    let mut count = 0;
-    let mut j = i + 1;
-    while j < n {
-        let one = count_pair(list, i, j);
-        count += one;
-        j += 1;
-    }
-    count
+    let mut unseen = [0; MOST_WITH];
+    put_rows_with(list, i, &mut unseen, 0)
 }
 
 // 0 where the rows of object i have room, else the length that they need. Where there is room for every later one, nothing is counted.
@@ -138,8 +125,7 @@ pub fn lacking_with(list: &[i64], i: usize, room: usize) -> usize
     if every <= room {
         return 0;
     }
-    let count = count_with(list, i);
-    let need = count * ROW_WIDTH;
+    let need = size_with(list, i);
     if need <= room {
         return 0;
     }

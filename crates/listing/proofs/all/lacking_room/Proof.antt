@@ -1,14 +1,15 @@
+use mathlib.Core.Path.{_∙_}
 use native.Mathlib.Omega.{arith}
 use Rattle.listing.specs.Lists.{countOf}
 use Rattle.listing.specs.Rows.{sharing}
-use Rattle.listing.specs.RowsLaws.{square-most, square-least, rows-most, length-rows, first-counts-most}
+use Rattle.listing.specs.RowsLaws.{square-most, square-least, rows-most, length-rows}
 use Rattle.listing.specs.ListingLaws.{lacks-none, lacks}
 use borrow.Author.Needs.{needs}
 use Rattle.listing.proofs.all.lacking_room.Statement.{statement}
 use Rattle.listing.proofs.all.lacking_room.Tie as tie
 use Rattle.listing.proofs.all.lacking_room.Reads as reads
 use Rattle.listing.proofs.all.lacking_room.Lts as lts
-use Rattle.listing.proofs.all.count_rows.Reads as count-rows-reads
+use Rattle.listing.proofs.all.size_of_rows.Reads as size-of-rows-reads
 
 mul-square : tie.Need-mul-square
 mul-square c = omega (arith, square-most (c .pre .few))
@@ -24,25 +25,21 @@ returns c =
     let l = c .before .args .list .now in
     lacks-none (sharing l) (c .before .args .room) (omega (arith, rows-most l, length-rows l))
 
-count-rows-requires : tie.Need-count-rows-requires
-count-rows-requires c κs = search needs
-
-mul-need : tie.Need-mul-need
-mul-need c =
-    let s = c .before .before in
-    let l = s .args .list .now in
-    omega (arith, c .count-rows .ensures, s .pre .few, first-counts-most l (s .pre .few) (countOf l))
+size-of-rows-requires : tie.Need-size-of-rows-requires
+size-of-rows-requires c κs = search needs
 
 returns-2 : tie.Need-returns-2
 returns-2 c =
     let s = c .before .before .before in
-    lacks-none (sharing (s .args .list .now)) (s .args .room) (omega (arith, c .before .count-rows .ensures))
+    let l = s .args .list .now in
+    lacks-none (sharing l) (s .args .room) (omega (arith, c .before .size-of-rows .ensures, length-rows l))
 
 returns-3 : tie.Need-returns-3
 returns-3 c =
     let s = c .before .before .before in
-    let k = c .before .count-rows in
-    lacks (sharing (s .args .list .now)) (s .args .room) (k .result) (k .ensures) (omega arith)
+    let l = s .args .list .now in
+    let k = c .before .size-of-rows in
+    lacks (sharing l) (s .args .room) (k .result) (k .ensures ∙ length-rows l) (omega arith)
 
 pub lacking-room-spec : {M : Type 1} → statement M
 lacking-room-spec =
@@ -52,7 +49,6 @@ lacking-room-spec =
     sub-pairs
     mul-every
     returns
-    count-rows-requires
-    mul-need
+    size-of-rows-requires
     returns-2
     returns-3)

@@ -1,14 +1,14 @@
+use mathlib.Core.Path.{_∙_}
 use native.Mathlib.Omega.{arith}
-use Rattle.listing.specs.Lists.{countOf}
 use Rattle.listing.specs.Rows.{sharingWith}
-use Rattle.listing.specs.RowsLaws.{rows-with-most, length-rows-with, counts-most}
+use Rattle.listing.specs.RowsLaws.{rows-with-most, length-rows-with}
 use Rattle.listing.specs.ListingLaws.{lacks-none, lacks}
 use borrow.Author.Needs.{needs}
 use Rattle.listing.proofs.rows.lacking_with.Statement.{statement}
 use Rattle.listing.proofs.rows.lacking_with.Tie as tie
 use Rattle.listing.proofs.rows.lacking_with.Reads as reads
 use Rattle.listing.proofs.rows.lacking_with.Lts as lts
-use Rattle.listing.proofs.rows.count_with.Reads as count-with-reads
+use Rattle.listing.proofs.rows.size_with.Reads as size-with-reads
 
 add-later : tie.Need-add-later
 add-later c = search needs
@@ -26,24 +26,23 @@ returns c =
     let i = s .args .i in
     lacks-none (sharingWith l i) (s .args .room) (omega (arith, rows-with-most l i, length-rows-with l i (s .pre .1)))
 
-count-with-requires : tie.Need-count-with-requires
-count-with-requires c κs = search needs
-
-mul-need : tie.Need-mul-need
-mul-need c =
-    let s = c .before .before in
-    omega (arith, c .count-with .ensures, s .pre .0 .few, counts-most (s .args .list .now) (s .args .i) (countOf (s .args .list .now)))
+size-with-requires : tie.Need-size-with-requires
+size-with-requires c κs = search needs
 
 returns-2 : tie.Need-returns-2
 returns-2 c =
     let s = c .before .before .before in
-    lacks-none (sharingWith (s .args .list .now) (s .args .i)) (s .args .room) (omega (arith, c .before .count-with .ensures))
+    let l = s .args .list .now in
+    let i = s .args .i in
+    lacks-none (sharingWith l i) (s .args .room) (omega (arith, c .before .size-with .ensures, length-rows-with l i (s .pre .1)))
 
 returns-3 : tie.Need-returns-3
 returns-3 c =
     let s = c .before .before .before in
-    let k = c .before .count-with in
-    lacks (sharingWith (s .args .list .now) (s .args .i)) (s .args .room) (k .result) (k .ensures) (omega arith)
+    let l = s .args .list .now in
+    let i = s .args .i in
+    let k = c .before .size-with in
+    lacks (sharingWith l i) (s .args .room) (k .result) (k .ensures ∙ length-rows-with l i (s .pre .1)) (omega arith)
 
 pub lacking-with-spec : {M : Type 1} → statement M
 lacking-with-spec =
@@ -53,7 +52,6 @@ lacking-with-spec =
     sub-later
     mul-every
     returns
-    count-with-requires
-    mul-need
+    size-with-requires
     returns-2
     returns-3)

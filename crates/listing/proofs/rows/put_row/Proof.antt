@@ -1,13 +1,16 @@
 use Prim.Native.Nat.{_+_}
-use mathlib.Core.Path.{_≡_, sym, ap, _∙_}
+use mathlib.Core.Path.{_≡_, sym, ap, subst, _∙_}
 use mathlib.Core.List.{_∷_}
 use native.Mathlib.Omega.{arith}
 use lib.IntN.{pos}
 use lib.ListN.{length}
 use lib.Seq.{sets}
+use Rattle.sheet.specs.declared.Object.{Object}
 use Rattle.sheet.specs.Points.{numbers}
-use Rattle.sheet.specs.Crossing.{Meeting, point, many}
+use Rattle.sheet.specs.Refusal.{Accepted}
+use Rattle.sheet.specs.Crossing.{Meeting, point, many, crossingOf}
 use Rattle.kernel.proofs.Handed as handed
+use Rattle.listing.specs.Lists.{objectAt}
 use Rattle.listing.specs.Rows.{rowWidth, meetingOf, rowBy}
 use Rattle.listing.specs.RowsLaws.{meetingBy}
 use borrow.Author.Needs.{needs}
@@ -19,19 +22,28 @@ use Rattle.listing.proofs.rows.meet.Reads as meet-reads
 use Rattle.listing.proofs.rows.write_row.Reads as write-row-reads
 
 meet-requires : tie.Need-meet-requires
-meet-requires c κs = search needs
+meet-requires c κs =
+    let p = c .pre .0 in
+    (subst Accepted (sym (p .1)) (p .0 .list .each (c .args .i) (p .0 .one)), (p .0 .list, p .0 .two))
 
 enum-known-p : tie.Need-enum-known-p
 enum-known-p c = search needs
 
--- what the two share, in each arm
+-- what the two share: object i is the one that was handed in
+met : (c : tie.After-meet) → meetingBy (c .meet .result) ≡ meetingOf (c .before .args .list .now) (c .before .args .i) (c .before .args .j)
+unfolding meetingOf
+met c =
+    let s = c .before in
+    c .meet .ensures ∙ ap (λ (a : Object). crossingOf a (objectAt (s .args .list .now) (s .args .j))) (s .pre .0 .1)
+
+-- and so in each arm
 met-once : (c : tie.After-p) → point (c .p .given .0 .0)
     ≡ meetingOf (c .before .before .before .args .list .now) (c .before .before .before .args .i) (c .before .before .before .args .j)
-met-once c = sym (ap meetingBy (c .p .given .1)) ∙ c .before .before .meet .ensures
+met-once c = sym (ap meetingBy (c .p .given .1)) ∙ met (c .before .before)
 
 met-many : (c : tie.After-enum-told) → many
     ≡ meetingOf (c .before .before .before .args .list .now) (c .before .before .before .args .i) (c .before .before .before .args .j)
-met-many c = sym (ap meetingBy (c .enum-told .given .1)) ∙ c .before .before .meet .ensures
+met-many c = sym (ap meetingBy (c .enum-told .given .1)) ∙ met (c .before .before)
 
 write-row-requires : tie.Need-write-row-requires
 write-row-requires c κs =
@@ -39,7 +51,7 @@ write-row-requires c κs =
     let s = k .before .before .before .before in
     let e : rowWidth ≡ length (rowBy (s .args .i) (s .args .j) (meetingOf (s .args .list .now) (s .args .i) (s .args .j))) =
     ap (λ (m : Meeting). length (rowBy (s .args .i) (s .args .j) m)) (met-once (k .before)) in
-    (omega (arith, s .pre .1), (omega (arith, s .pre .0 .list .few, s .pre .0 .one), omega (arith, s .pre .0 .list .few, s .pre .0 .two)))
+    (omega (arith, s .pre .1), (omega (arith, s .pre .0 .0 .list .few, s .pre .0 .0 .one), omega (arith, s .pre .0 .0 .list .few, s .pre .0 .0 .two)))
 
 same-length : tie.Need-same-length
 same-length c = search needs
@@ -67,7 +79,7 @@ write-row-requires-2 c κs =
     let s = c .before .before .before .before in
     let e : rowWidth ≡ length (rowBy (s .args .i) (s .args .j) (meetingOf (s .args .list .now) (s .args .i) (s .args .j))) =
     ap (λ (m : Meeting). length (rowBy (s .args .i) (s .args .j) m)) (met-many (c .before)) in
-    (omega (arith, s .pre .1), (omega (arith, s .pre .0 .list .few, s .pre .0 .one), omega (arith, s .pre .0 .list .few, s .pre .0 .two)))
+    (omega (arith, s .pre .1), (omega (arith, s .pre .0 .0 .list .few, s .pre .0 .0 .one), omega (arith, s .pre .0 .0 .list .few, s .pre .0 .0 .two)))
 
 same-length-2 : tie.Need-same-length-2
 same-length-2 c = search needs
@@ -87,9 +99,9 @@ enum-told-2 c = search needs
 returns-3 : tie.Need-returns-3
 returns-3 c =
     let s = c .before .before .before in
-    let met = sym (ap meetingBy (c .enum-told2 .given .1)) ∙ c .before .before .meet .ensures in (
-      omega (arith, ap (λ (m : Meeting). length (rowBy (s .args .i) (s .args .j) m)) met),
-      ap (λ (m : Meeting). sets (s .args .out .now) (s .args .at) (rowBy (s .args .i) (s .args .j) m)) met,
+    let told = sym (ap meetingBy (c .enum-told2 .given .1)) ∙ met (c .before .before) in (
+      omega (arith, ap (λ (m : Meeting). length (rowBy (s .args .i) (s .args .j) m)) told),
+      ap (λ (m : Meeting). sets (s .args .out .now) (s .args .at) (rowBy (s .args .i) (s .args .j) m)) told,
     )
 
 enum-told-3 : tie.Need-enum-told-3
@@ -98,9 +110,9 @@ enum-told-3 c = search needs
 returns-4 : tie.Need-returns-4
 returns-4 c =
     let s = c .before .before .before in
-    let met = sym (ap meetingBy (c .enum-told3 .given .1)) ∙ c .before .before .meet .ensures in (
-      omega (arith, ap (λ (m : Meeting). length (rowBy (s .args .i) (s .args .j) m)) met),
-      ap (λ (m : Meeting). sets (s .args .out .now) (s .args .at) (rowBy (s .args .i) (s .args .j) m)) met,
+    let told = sym (ap meetingBy (c .enum-told3 .given .1)) ∙ met (c .before .before) in (
+      omega (arith, ap (λ (m : Meeting). length (rowBy (s .args .i) (s .args .j) m)) told),
+      ap (λ (m : Meeting). sets (s .args .out .now) (s .args .at) (rowBy (s .args .i) (s .args .j) m)) told,
     )
 
 pub put-row-spec : {M : Type 1} → statement M

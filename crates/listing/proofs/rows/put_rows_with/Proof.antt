@@ -12,29 +12,34 @@ use Rattle.listing.proofs.rows.put_rows_with.Statement.{statement}
 use Rattle.listing.proofs.rows.put_rows_with.Tie as tie
 use Rattle.listing.proofs.rows.put_rows_with.Reads as reads
 use Rattle.listing.proofs.rows.put_rows_with.Lts as lts
+use Rattle.listing.proofs.objects.object_at.Reads as object-at-reads
 use Rattle.listing.proofs.rows.put_row.Reads as put-row-reads
 
 abbrev Inv-loop : tie.InvT-loop
-Inv-loop list i out₀ at n next₀ j₀ out next j =
+Inv-loop list i out₀ at n a next₀ j₀ out next j =
     (i < j) × ((j ≤ countOf list)
     × ((next ≡ at + length (rowsBefore list i j)) × ((length out ≡ length out₀) × (out ≡ sets out₀ at (rowsBefore list i j)))))
 
 abbrev μ-loop : tie.MeasureT-loop
-μ-loop list i out₀ at n next₀ j₀ out next j = countOf list - j
+μ-loop list i out₀ at n a next₀ j₀ out next j = countOf list - j
+
+object-at-requires : tie.Need-object-at-requires Inv-loop μ-loop
+object-at-requires c κs = c .pre .0 .1
 
 add-j : tie.Need-add-j Inv-loop μ-loop
 add-j c = search needs
 
 loop-holds : tie.Need-loop-holds Inv-loop μ-loop
 loop-holds c =
-    let z = sym (rows-none (c .args .list .now) (c .args .i)) in
-    (search needs, (search needs, (omega (arith, ap length z), (refl, ap (sets (c .args .out .now) (c .args .at)) z))))
+    let s = c .before in
+    let z = sym (rows-none (s .args .list .now) (s .args .i)) in
+    (search needs, (search needs, (omega (arith, ap length z), (refl, ap (sets (s .args .out .now) (s .args .at)) z))))
 
 put-row-requires : tie.Need-put-row-requires Inv-loop μ-loop
 put-row-requires c κs =
     let at = c .before .before in
-    let s = at .before in (
-      record { list = s .pre .0 .0; one = s .pre .0 .1; two = omega arith },
+    let s = at .before .before in (
+      (record { list = s .pre .0 .0; one = s .pre .0 .1; two = omega arith }, at .before .object-at .ensures),
       omega (arith, s .pre .1, at .loop .inv .1 .1 .0, at .loop .inv .1 .1 .1 .0, rows-room (s .args .list .now) (s .args .i) (at .loop .j) (at .loop .inv .0) (omega arith)),
     )
 
@@ -47,7 +52,7 @@ loop-less c = search needs
 loop-again : tie.Need-loop-again Inv-loop μ-loop
 loop-again c =
     let at = c .before .before .before .before in
-    let s = at .before in
+    let s = at .before .before in
     let l = s .args .list .now in
     let i = s .args .i in
     let j = at .loop .j in
@@ -74,7 +79,7 @@ same-length c = c .before .loop .inv .1 .1 .1 .0
 returns : tie.Need-returns Inv-loop μ-loop
 returns c =
     let at = c .before in
-    let s = at .before in
+    let s = at .before .before in
     let l = s .args .list .now in
     let i = s .args .i in
     let inv = at .loop .inv in
@@ -89,6 +94,7 @@ put-rows-with-spec =
     (tie.spec
     Inv-loop
     μ-loop
+    object-at-requires
     add-j
     loop-holds
     put-row-requires
