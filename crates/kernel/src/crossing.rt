@@ -11,6 +11,7 @@ ghost use Rattle.sheet.specs.Crossing.{crossingOf, crossingRefusal};
 ghost use Rattle.sheet.specs.Answers.{answer, meetingNumbers, crossingSays};
 ghost use Rattle.kernel.specs.Pieces.{object};
 
+// The answers with a side have names of their own: the common answer, from cross_pieces, then stays in registers and out of memory.
 fn meet(
     ka: i64,
     px: i64,

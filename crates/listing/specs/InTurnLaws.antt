@@ -3,7 +3,7 @@
 --   first-stays           a refusal that is found stays the first
 --   first-none, none-first   no refusal is found exactly where there is none
 --   length-grows, length-most, length-sum, length-below   how long lists are one after another
---   sum-same, sum-none, sum-shift, sum-most, sum-later    sums
+--   sum-none, sum-shift, sum-later    sums
 -- Assumes nothing.
 use mathlib.Core.Path.{_≡_, refl, sym, ap, ap₂, _∙_}
 use mathlib.Core.List.{List}
@@ -60,11 +60,6 @@ module _ (f : ℕ → List ℤ) where
 
 -- ---- sums
 
-pub sum-same : (f g : ℕ → ℕ) (n : ℕ) → ((i : ℕ) → i < n → f i ≡ g i) → sumOf f n ≡ sumOf g n
-unfolding inTurn
-sum-same f g zero h = refl
-sum-same f g (suc n) h = ap₂ _+_ (sum-same f g n (λ i k. h i (omega arith))) (h n (omega arith))
-
 -- the lengths of lists one after another, each w for each that is counted
 pub length-sum : (f : ℕ → List ℤ) (g : ℕ → ℕ) (w n : ℕ) → ((i : ℕ) → i < n → length (f i) ≡ g i * w) → length (allOf f n) ≡ sumOf g n * w
 unfolding inTurn
@@ -80,11 +75,6 @@ pub sum-shift : (f : ℕ → ℕ) (a n : ℕ) → sumOf f (a + n) ≡ sumOf f a 
 unfolding inTurn
 sum-shift f a zero = ap (sumOf f) (add-zero a) ∙ omega arith
 sum-shift f a (suc n) = ap (sumOf f) (add-suc a n) ∙ omega (arith, sum-shift f a n)
-
-pub sum-most : (f : ℕ → ℕ) (w : ℕ) → ((k : ℕ) → f k ≤ w) → (n : ℕ) → sumOf f n ≤ n * w
-unfolding inTurn
-sum-most f w h zero = omega arith
-sum-most f w h (suc n) = simp suc-mul (omega (arith, h n, sum-most f w h n))
 
 pub length-below : (f : ℕ → List ℤ) (g : ℕ → ℕ) (w n : ℕ) → ((i : ℕ) → length (f i) ≤ g i * w) → length (allOf f n) ≤ sumOf g n * w
 unfolding inTurn

@@ -1,20 +1,18 @@
 -- The laws of rows. To cite:
 --   meetingBy, met-by      what the kernel's answer says, as the paper's
 --   rowsBefore, rows-none, rows-more, rows-room   the rows of object i with the later ones before j, as the code goes
---   counts-none, counts-more, counts-most         the same, counted
---   rowsFirst, first-rows-none, .., first-counts-most   the rows of the objects before i, and their number
+--   rowsFirst, first-rows-none, first-rows-more, first-rows-room   the rows of the objects before i
 --   square-most, square-least                     the square of a count fits, and is not less than it
 --   row-most, rows-with-most, rows-most           how long rows can be
 --   length-rows-with, length-rows   the rows are as many as the pairs that share something
 --   limits-with, limits-all   refusal 12 is not given
 -- Assumes nothing.
 use mathlib.Core.Path.{_≡_, refl, sym, ap, _∙_}
-use mathlib.Core.Bool.{Bool, true, false, cond, _&&_}
+use mathlib.Core.Bool.{cond}
 use mathlib.Core.List.{List, [], _∷_, _++_}
 use Prim.Native.Nat.{ℕ, zero, suc, _+_, _-_, _*_, _/_, _≤_, _<_}
-use native.Mathlib.Nat.{le-trans, mul-le-mul, le-mul-of-pos-right}
+use native.Mathlib.Nat.{mul-le-mul, le-mul-of-pos-right}
 use native.Mathlib.Omega.{arith}
-use lib.Dec.{ltb}
 use lib.IntN.{ℤ, pos}
 use lib.ListN.{length, length-append}
 use borrow.Author.Tests.{lt-ltb, le-ltb}
@@ -27,7 +25,7 @@ use Rattle.sheet.specs.AnswersLaws.{point-one}
 use Rattle.sheet.specs.Crossing.{Meeting, none, point, many, limitsRefusal}
 use Rattle.sheet.specs.CrossingLaws.{crossing-limits}
 use Rattle.listing.specs.InTurn.{inTurn, allOf, sumOf}
-use Rattle.listing.specs.InTurnLaws.{turn-more, first-none, length-grows, length-most, length-sum, length-below, sum-shift, sum-none, sum-most, sum-later}
+use Rattle.listing.specs.InTurnLaws.{turn-more, first-none, length-grows, length-most, length-sum, length-below, sum-shift, sum-none, sum-later}
 use Rattle.listing.specs.Lists.{countOf}
 use Rattle.listing.specs.ListsLaws.{Listable}
 use Rattle.listing.specs.Rows.{rowWidth, meetingOf, rowBy, rowOf, laterOf, rowsWith, rowsOf, isSome, pairCount, sharingWith, sharing, limitsWith, limitsOf}
@@ -109,18 +107,8 @@ module _ (l : List ℤ) (i : ℕ) where
   count-later : (j : ℕ) → i < j → pairCount l i j ≡ cond (isSome (meetingOf l i j)) 1 0
   count-later j h = simp (lt-ltb i j h)
 
-  pub counts-none : sumOf (pairCount l i) (i + 1) ≡ 0
+  counts-none : sumOf (pairCount l i) (i + 1) ≡ 0
   counts-none = sum-none (pairCount l i) (i + 1) count-early
-
-  pub counts-more : (j : ℕ) → i < j → sumOf (pairCount l i) (j + 1) ≡ sumOf (pairCount l i) j + cond (isSome (meetingOf l i j)) 1 0
-  counts-more j h = turn-more _+_ 0 (pairCount l i) j ∙ ap (λ (k : ℕ). sumOf (pairCount l i) j + k) (count-later j h)
-
-  pub counts-most : (n : ℕ) → sumOf (pairCount l i) n ≤ n
-  counts-most n = let h = sum-most (pairCount l i) 1 (λ j. flag (ltb i j && isSome (meetingOf l i j))) n in omega arith
-    where
-      flag : (t : Bool) → cond t 1 0 ≤ 1
-      flag true = omega arith
-      flag false = omega arith
 
   pub length-rows-with : i < countOf l → length (rowsWith l i) ≡ sharingWith l i * rowWidth
   length-rows-with h =
@@ -148,16 +136,6 @@ module _ (l : List ℤ) where
       let g = length-grows (λ i. rowsWith l i) (i + 1) (countOf l) (omega arith) in
       let e = ap length (first-rows-more i) ∙ length-append (rowsFirst i) (rowsWith l i) in
       omega arith
-
-  pub first-counts-none : sumOf (λ i. sharingWith l i) 0 ≡ 0
-  unfolding inTurn
-  first-counts-none = refl
-
-  pub first-counts-more : (i : ℕ) → sumOf (λ i. sharingWith l i) (i + 1) ≡ sumOf (λ i. sharingWith l i) i + sharingWith l i
-  first-counts-more i = turn-more _+_ 0 (λ i. sharingWith l i) i
-
-  pub first-counts-most : countOf l ≤ most → (n : ℕ) → sumOf (λ i. sharingWith l i) n ≤ n * most
-  first-counts-most h n = sum-most (λ i. sharingWith l i) most (λ i. le-trans (counts-most l i (countOf l)) h) n
 
   pub length-rows : length (rowsOf l) ≡ sharing l * rowWidth
   length-rows = length-sum (λ i. rowsWith l i) (λ i. sharingWith l i) rowWidth (countOf l) (λ i h. length-rows-with l i h)

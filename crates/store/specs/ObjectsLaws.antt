@@ -1,6 +1,5 @@
 -- Reading object by object. To cite:
 --   objects-step, objects-stop   one more object, or its refusal, by what the code is told at a place
---   objects-fine                 the object is taken where all that follows is
 --   objects-length               five numbers an object
 --   drawing-refused, drawing-counted   the count, and then the objects
 --   objects-end, objects-over, objects-past    after the last object
@@ -17,12 +16,11 @@ use Rattle.store.specs.Stored.{width, Drawing, Reading, got, no, refused
 use Rattle.store.specs.Tells.{Tells}
 use Rattle.store.specs.SureLaws.{Sure, sure-object}
 use Rattle.store.specs.SureLaws as sure
-use mathlib.Core.Bool.{Bool, true, false}
 use lib.Signed.{mag}
 use mir.Syntax.{w64}
 use mir.Val.{ofZ}
 use Rattle.whole.specs.Bound.{fits64, w-pos}
-use Rattle.whole.specs.Tests.{eqZ, eqZ-true, eqZ-false, fits-ok, eq-taken, eq-left}
+use Rattle.whole.specs.Tests.{eqZ-false, fits-ok, eq-taken, eq-left}
 
 pub objects-suc : (k : ℕ) (bs : List ℕ) → 0 < k → readObjects k bs ≡ andThen (readObject bs) (λ rest. readObjects (k - 1) rest)
 unfolding readObjects
@@ -55,16 +53,6 @@ pub objects-past : (bs : List ℕ) → readObjects 0 bs .objects ≡ []
 unfolding readObjects
 objects-past [] = refl
 objects-past (b ∷ bs) = refl
-
--- of what the code is told at a place, where all that follows is taken
-pub objects-fine :
-    (k : ℕ) (bs : List ℕ) (at : ℕ) {n : ℤ} {o : Object} {size : ℕ} → 0 < k → Tells (drop at bs) (readObject (drop at bs)) n o size
-    → readObjects k (drop at bs) .refusal ≡ pos 0 → n ≡ pos 0
-objects-fine k bs at {n} h t e = go (eqZ n (pos 0)) (λ z. eqZ-true z) (λ z. eqZ-false z)
-  where
-    go : (f : Bool) → (f ≡ true → n ≡ pos 0) → (f ≡ false → n ≡ pos 0 → ⊥) → n ≡ pos 0
-    go true y m = y refl
-    go false y m = sym (ap (λ (d : Drawing). d .refusal) (objects-stop k bs at h t (m refl))) ∙ e
 
 -- "five numbers" an object
 pub objects-length : (k : ℕ) (bs : List ℕ) → readObjects k bs .refusal ≡ pos 0 → length (readObjects k bs .objects) ≡ k * width

@@ -1,9 +1,8 @@
 // Stored drawings: a list of objects as bytes, and back. The definitions are in specs/Stored.antt.
 use reading::WIDTH;
-use reading::check_objects;
-use reading::fill;
 use reading::read_count;
 use reading::read_object;
+use reading::read_objects;
 use sheet::Object;
 use writing::list_refusal;
 use writing::number_size;
@@ -42,7 +41,8 @@ pub fn check_drawing(bytes: &[u8]) -> i64
         return no;
     }
     let after = read.size;
-    check_objects(read.value, &bytes[after..])
+    let mut nowhere = [0; 0];
+    read_objects(read.value, &bytes[after..], &mut nowhere)
 }
 
 // The objects of a drawing, in order, at the front of a lent list: five numbers each.
@@ -61,7 +61,8 @@ pub fn read_drawing(bytes: &[u8], out: &mut [i64]) -> Read
     }
     let count = read.value;
     let after = read.size;
-    let wrong = check_objects(count, &bytes[after..]);
+    let mut nowhere = [0; 0];
+    let wrong = read_objects(count, &bytes[after..], &mut nowhere);
     if wrong != 0 {
         return Read {
             refusal: wrong,
@@ -77,7 +78,7 @@ pub fn read_drawing(bytes: &[u8], out: &mut [i64]) -> Read
             length,
         };
     }
-    fill(count, &bytes[after..], out);
+    read_objects(count, &bytes[after..], out);
     Read {
         refusal: 0,
         count: count as usize,

@@ -2,15 +2,11 @@
 // how many bytes were taken, or the refusal; the rest of the slice is handed on to the next reading function.
 use sheet::Object;
 ghost use mathlib.Core.Path.{_≡_};
-ghost use mathlib.Core.List.{_++_};
 ghost use Prim.Native.Nat.{_<_, _≤_, _+_, _*_};
-ghost use lib.IntN.{pos};
-ghost use lib.ListN.{length, drop};
-ghost use lib.Seq.{sets};
 ghost use Rattle.sheet.specs.Answers.{objectNumbers};
 ghost use Rattle.sheet.specs.Limits.{most};
 ghost use Rattle.store.specs.Stored.{width, numberLimit, pairOf, readNumber, unzigzag, readCoordinate, readPoint, readSide, readTo, readPair, readShape, readObject, readCount, readObjects};
-ghost use Rattle.store.specs.Tells.{Tells};
+ghost use Rattle.store.specs.Tells.{Tells, Placed, Filled};
 
 // The numbers of an object in a list.
 pub(crate) const WIDTH: usize = 5;
@@ -298,32 +294,14 @@ pub(crate) fn read_count(bytes: &[u8]) -> Number
     }
 }
 
-// The refusal of bytes that are to hold count objects and nothing more; 0 for none.
-pub(crate) fn check_objects(count: u64, bytes: &[u8]) -> i64
-    ensures { λ r. ⌜ r ≡ readObjects count (now (bytes .entry)) .refusal ⌝ }
-{
-    let mut left = count;
-    let mut at = 0;
-    while 0 < left {
-        let part = read_object(&bytes[at..]);
-        let no = part.refusal;
-        if no != 0 {
-            return no;
-        }
-        at += part.size;
-        left -= 1;
-    }
-    if at < bytes.len() {
-        return 9;
-    }
-    0
-}
-
-// An object's five numbers, at a place of a list.
+// An object's five numbers, at a place of a list that has room for them there.
 pub(crate) fn put_object(out: &mut [i64], at: usize, o: Object)
-    requires { ⌜ at + width ≤ length (now out) ⌝ }
-    ensures { λ _. ⌜ now (out .exit) ≡ sets (now (out .entry)) at (objectNumbers o) ⌝ }
+    requires { ⌜ at + width ≤ most * width ⌝ }
+    ensures { λ _. ⌜ Placed at (objectNumbers o) (now (out .entry)) (now (out .exit)) ⌝ }
 {
+    if out.len() < at + WIDTH {
+        return;
+    }
     let kind = o.kind;
     let px = o.px;
     let py = o.py;
@@ -336,21 +314,30 @@ pub(crate) fn put_object(out: &mut [i64], at: usize, o: Object)
     out[at + 4] = qy;
 }
 
-// The objects of bytes that were checked.
-pub(crate) fn fill(count: u64, bytes: &[u8], out: &mut [i64])
-    requires { ⌜ readObjects count (now bytes) .refusal ≡ pos 0 ⌝ }
-    requires { ⌜ count * width ≤ length (now out) ⌝ }
-    ensures { λ _. ⌜ now (out .exit) ≡ readObjects count (now (bytes .entry)) .objects ++ drop (count * width) (now (out .entry)) ⌝ }
+// The refusal of bytes that are to hold count objects and nothing more; 0 for none, and the objects at the front of a list that has room.
+// A list without room makes it a check alone: one loop for both, so that an object is read in one place.
+pub(crate) fn read_objects(count: u64, bytes: &[u8], out: &mut [i64]) -> i64
+    requires { ⌜ count ≤ most ⌝ }
+    ensures refusal { λ r. ⌜ r ≡ readObjects count (now (bytes .entry)) .refusal ⌝ }
+    ensures cells { λ r. ⌜ Filled (readObjects count (now (bytes .entry))) (count * width) (now (out .entry)) (now (out .exit)) ⌝ }
 {
     let mut left = count;
     let mut at = 0;
     let mut to = 0;
     while 0 < left {
         let part = read_object(&bytes[at..]);
+        let no = part.refusal;
+        if no != 0 {
+            return no;
+        }
         let object = part.object;
         put_object(out, to, object);
         at += part.size;
         to += WIDTH;
         left -= 1;
     }
+    if at < bytes.len() {
+        return 9;
+    }
+    0
 }

@@ -19,25 +19,30 @@ returns c =
     let ok = c .before .struct-told .given .0 .1 in
     out-ok (r .result .refusal) ok ∙ sym (ap (λ (d : Drawing). d .refusal) (drawing-refused (r .ensures .0) ok (c .if1 .taken)))
 
-sub-check-objects : tie.Need-sub-check-objects
-sub-check-objects c = search needs
+sub-read-objects : tie.Need-sub-read-objects
+sub-read-objects c = search needs
 
-part-check-objects-start : tie.Need-part-check-objects-start
-part-check-objects-start c = search needs
+part-read-objects-start : tie.Need-part-read-objects-start
+part-read-objects-start c = search needs
 
-part-check-objects-end : tie.Need-part-check-objects-end
-part-check-objects-end c = search needs
+part-read-objects-end : tie.Need-part-read-objects-end
+part-read-objects-end c = search needs
 
-check-objects-requires : tie.Need-check-objects-requires
-check-objects-requires c κs = search needs
+slice-aggregate-read-objects : tie.Need-slice-aggregate-read-objects
+slice-aggregate-read-objects c = search needs
+
+read-objects-requires : tie.Need-read-objects-requires
+read-objects-requires c κs = c .before .before .before .before .read-count .ensures .1
 
 returns-2 : tie.Need-returns-2
 returns-2 c =
-    let r = c .before .before .before .before .read-count in
-    let bs = c .before .before .before .before .before .before .args .bytes .now in
-    let d = drawing-counted (r .ensures .0) (c .before .before .before .struct-told .given .0 .1) (c .before .before .if1 .left) in
-    out-ok (c .check-objects .result) (c .check-objects .ok)
-    ∙ c .check-objects .ensures
+    let o = c .before .read-objects in
+    let r = c .before .before .before .before .before .before .read-count in
+    let bs = c .before .before .before .before .before .before .before .before .args .bytes .now in
+    let d = drawing-counted (r .ensures .0) (c .before .before .before .before .before .struct-told .given .0 .1)
+    (c .before .before .before .before .if1 .left) in
+    out-ok (o .result) (o .ok)
+    ∙ o .ensures .0
     ∙ ap (λ (l : List ℕ). readObjects (r .result .value) l .refusal) (rest-is (r .result .size) bs)
     ∙ sym (ap (λ (d : Drawing). d .refusal) d)
 
@@ -47,8 +52,9 @@ check-drawing-spec =
     (tie.spec
     read-count-requires
     returns
-    sub-check-objects
-    part-check-objects-start
-    part-check-objects-end
-    check-objects-requires
+    sub-read-objects
+    part-read-objects-start
+    part-read-objects-end
+    slice-aggregate-read-objects
+    read-objects-requires
     returns-2)

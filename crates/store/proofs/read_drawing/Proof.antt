@@ -20,37 +20,37 @@ read-count-requires c κs = search needs
 
 -- the drawing once its count is read
 counted :
-    (c : tie.After-check-objects) →
-    let r = c .before .before .before .before .read-count .result in
-    let bs = c .before .before .before .before .before .before .args .bytes .now in
+    (c : tie.After-read-objects) →
+    let r = c .before .before .before .before .before .read-count .result in
+    let bs = c .before .before .before .before .before .before .before .args .bytes .now in
     readDrawing bs ≡ readObjects (r .value) (drop (r .size) bs)
 counted c =
-    drawing-counted (c .before .before .before .before .read-count .ensures .0) (c .before .before .before .struct-told .given .0 .1)
-    (c .before .before .if1 .left)
+    drawing-counted (c .before .before .before .before .before .read-count .ensures .0)
+    (c .before .before .before .before .struct-told .given .0 .1) (c .before .before .before .if1 .left)
 
-whole : (c : tie.After-check-objects) → c .check-objects .result ≡ readDrawing
-    (c .before .before .before .before .before .before .args .bytes .now) .refusal
+whole : (c : tie.After-read-objects) → c .read-objects .result ≡ readDrawing
+    (c .before .before .before .before .before .before .before .args .bytes .now) .refusal
 whole c =
-    let r = c .before .before .before .before .read-count .result in
-    let bs = c .before .before .before .before .before .before .args .bytes .now in
-    c .check-objects .ensures
+    let r = c .before .before .before .before .before .read-count .result in
+    let bs = c .before .before .before .before .before .before .before .args .bytes .now in
+    c .read-objects .ensures .0
     ∙ ap (λ (l : List ℕ). readObjects (r .value) l .refusal) (rest-is (r .size) bs)
     ∙ sym (ap (λ (d : Drawing). d .refusal) (counted c))
 
-fine : (c : tie.Else2) → readDrawing (c .before .before .before .before .before .before .before .args .bytes .now) .refusal ≡ pos 0
+fine : (c : tie.Else2) → readDrawing (c .before .before .before .before .before .before .before .before .before .args .bytes .now) .refusal ≡ pos 0
 fine c =
-    let n = c .before .check-objects in
-    sym (whole (c .before)) ∙ eq-taken (fits-ok (n .result) (n .ok)) (fits64 (w-pos 0) tt) (c .if2 .left)
+    let n = c .before .before .read-objects in
+    sym (whole (c .before .before)) ∙ eq-taken (fits-ok (n .result) (n .ok)) (fits64 (w-pos 0) tt) (c .if2 .left)
 
 long :
     (c : tie.Else2) →
-    length (readDrawing (c .before .before .before .before .before .before .before .args .bytes .now) .objects)
-    ≡ c .before .before .before .before .before .read-count .result .value * width
+    length (readDrawing (c .before .before .before .before .before .before .before .before .before .args .bytes .now) .objects)
+    ≡ c .before .before .before .before .before .before .before .read-count .result .value * width
 long c =
-    let r = c .before .before .before .before .before .read-count .result in
-    let bs = c .before .before .before .before .before .before .before .args .bytes .now in
-    ap (λ (d : Drawing). length (d .objects)) (counted (c .before))
-    ∙ objects-length (r .value) (drop (r .size) bs) (sym (ap (λ (d : Drawing). d .refusal) (counted (c .before))) ∙ fine c)
+    let r = c .before .before .before .before .before .before .before .read-count .result in
+    let bs = c .before .before .before .before .before .before .before .before .before .args .bytes .now in
+    ap (λ (d : Drawing). length (d .objects)) (counted (c .before .before))
+    ∙ objects-length (r .value) (drop (r .size) bs) (sym (ap (λ (d : Drawing). d .refusal) (counted (c .before .before))) ∙ fine c)
 
 returns : tie.Need-returns
 returns c =
@@ -61,53 +61,48 @@ returns c =
     read-refused d (s .args .out .now) (r .result .refusal) ok
     (sym (ap (λ (d : Drawing). d .refusal) (drawing-refused (r .ensures .0) ok (c .if1 .taken)))) (c .if1 .taken)
 
-sub-check-objects : tie.Need-sub-check-objects
-sub-check-objects c = search needs
+sub-read-objects : tie.Need-sub-read-objects
+sub-read-objects c = search needs
 
-part-check-objects-start : tie.Need-part-check-objects-start
-part-check-objects-start c = search needs
+part-read-objects-start : tie.Need-part-read-objects-start
+part-read-objects-start c = search needs
 
-part-check-objects-end : tie.Need-part-check-objects-end
-part-check-objects-end c = search needs
+part-read-objects-end : tie.Need-part-read-objects-end
+part-read-objects-end c = search needs
 
-check-objects-requires : tie.Need-check-objects-requires
-check-objects-requires c κs = search needs
+slice-aggregate-read-objects : tie.Need-slice-aggregate-read-objects
+slice-aggregate-read-objects c = search needs
+
+read-objects-requires : tie.Need-read-objects-requires
+read-objects-requires c κs = c .before .before .before .before .read-count .ensures .1
 
 returns-2 : tie.Need-returns-2
 returns-2 c =
-    let s = c .before .before .before .before .before .before .before in
-    read-refused (readDrawing (s .args .bytes .now)) (s .args .out .now) (c .before .check-objects .result) (c .before .check-objects .ok)
-    (whole (c .before)) (c .if2 .taken)
+    let s = c .before .before .before .before .before .before .before .before .before in
+    read-refused (readDrawing (s .args .bytes .now)) (s .args .out .now) (c .before .before .read-objects .result) (c .before .before .read-objects .ok)
+    (whole (c .before .before)) (c .if2 .taken)
 
 mul-length : tie.Need-mul-length
 mul-length c = search needs
 
 returns-3 : tie.Need-returns-3
 returns-3 c =
-    let s = c .before .before .before .before .before .before .before .before in
+    let s = c .before .before .before .before .before .before .before .before .before .before in
     let d = readDrawing (s .args .bytes .now) in
-    let count = c .before .before .before .before .before .before .read-count .result .value in
+    let count = c .before .before .before .before .before .before .before .before .read-count .result .value in
     read-short d (s .args .out .now) count (fine (c .before)) (long (c .before)) (c .if3 .taken)
 
-sub-fill : tie.Need-sub-fill
-sub-fill c = search needs
+sub-read-objects-2 : tie.Need-sub-read-objects-2
+sub-read-objects-2 c = search needs
 
-part-fill-start : tie.Need-part-fill-start
-part-fill-start c = search needs
+part-read-objects-start-2 : tie.Need-part-read-objects-start-2
+part-read-objects-start-2 c = search needs
 
-part-fill-end : tie.Need-part-fill-end
-part-fill-end c = search needs
+part-read-objects-end-2 : tie.Need-part-read-objects-end-2
+part-read-objects-end-2 c = search needs
 
-fill-requires : tie.Need-fill-requires
-fill-requires c κs =
-    let e = c .before .before .before in
-    let r = e .before .before .before .before .before .read-count .result in
-    let bs = e .before .before .before .before .before .before .before .args .bytes .now in (
-      ap (λ (l : List ℕ). readObjects (r .value) l .refusal) (rest-is (r .size) bs)
-          ∙ sym (ap (λ (d : Drawing). d .refusal) (counted (e .before)))
-          ∙ fine e,
-      omega (arith, c .before .before .if3 .left),
-    )
+read-objects-requires-2 : tie.Need-read-objects-requires-2
+read-objects-requires-2 c κs = c .before .before .before .before .before .before .before .before .before .before .read-count .ensures .1
 
 same-length : tie.Need-same-length
 same-length c = search needs
@@ -115,16 +110,18 @@ same-length c = search needs
 returns-4 : tie.Need-returns-4
 returns-4 c =
     let e = c .before .before .before .before .before in
-    let s = e .before .before .before .before .before .before .before in
-    let r = e .before .before .before .before .before .read-count .result in
+    let s = e .before .before .before .before .before .before .before .before .before in
+    let r = e .before .before .before .before .before .before .before .read-count .result in
     let bs = s .args .bytes .now in
     let d = readDrawing bs in
     let lent = s .args .out .now in
+    let rest = rest-is (r .size) bs in
+    let sound = ap (λ (l : List ℕ). readObjects (r .value) l .refusal) rest ∙ sym (ap (λ (d : Drawing). d .refusal) (counted (e .before .before))) ∙ fine e in
     let done = read-done d lent (r .value) (fine e) (long e) (c .before .before .before .before .if3 .left) in (
       done .0,
-      c .before .fill .ensures
-          ∙ ap (λ (l : List ℕ). readObjects (r .value) l .objects ++ drop (r .value * width) lent) (rest-is (r .size) bs)
-          ∙ sym (ap (λ (d : Drawing). d .objects ++ drop (r .value * width) lent) (counted (e .before)))
+      c .before .read-objects2 .ensures .1 sound (omega (arith, c .before .before .before .before .if3 .left))
+          ∙ ap (λ (l : List ℕ). readObjects (r .value) l .objects ++ drop (r .value * width) lent) rest
+          ∙ sym (ap (λ (d : Drawing). d .objects ++ drop (r .value * width) lent) (counted (e .before .before)))
           ∙ done .1,
     )
 
@@ -134,16 +131,17 @@ read-drawing-spec =
     (tie.spec
     read-count-requires
     returns
-    sub-check-objects
-    part-check-objects-start
-    part-check-objects-end
-    check-objects-requires
+    sub-read-objects
+    part-read-objects-start
+    part-read-objects-end
+    slice-aggregate-read-objects
+    read-objects-requires
     returns-2
     mul-length
     returns-3
-    sub-fill
-    part-fill-start
-    part-fill-end
-    fill-requires
+    sub-read-objects-2
+    part-read-objects-start-2
+    part-read-objects-end-2
+    read-objects-requires-2
     same-length
     returns-4)

@@ -8,6 +8,12 @@ use Rattle.whole.specs.Tests.{out-ok}
 use Rattle.store.proofs.reading.put_object.Statement.{statement}
 use Rattle.store.proofs.reading.put_object.Tie as tie
 
+add-if1 : tie.Need-add-if1
+add-if1 c = search needs
+
+returns : tie.Need-returns
+returns c = λ h. absurd (omega arith)
+
 mul-kind : tie.Need-mul-kind
 mul-kind c = search needs
 
@@ -53,9 +59,9 @@ slice-set-from-qy c = simp length-set (omega arith)
 same-length : tie.Need-same-length
 same-length c = search needs
 
-returns : tie.Need-returns
-returns c =
-    let s = c .before .before .before .before .before in
+returns-2 : tie.Need-returns-2
+returns-2 c =
+    let s = c .before .before .before .before .before .before in
     let at = s .args .at in
     let o = s .args .o in
     let t = c .before .before .before .before .struct-told .given in
@@ -63,7 +69,7 @@ returns c =
     let a2 : at + 2 ≡ suc (suc at) = omega arith in
     let a3 : at + 3 ≡ suc (suc (suc at)) = omega arith in
     let a4 : at + 4 ≡ suc (suc (suc (suc at))) = omega arith in
-    λ i. set (set (set (set (set (s .args .out .now) at (out-ok (o .kind) (t .0 .1) i))
+    λ _ i. set (set (set (set (set (s .args .out .now) at (out-ok (o .kind) (t .0 .1) i))
     (a1 i) (out-ok (o .px) (t .1 .0 .1) i))
     (a2 i) (out-ok (o .py) (t .1 .1 .0 .1) i))
     (a3 i) (out-ok (o .qx) (t .1 .1 .1 .0 .1) i))
@@ -73,6 +79,8 @@ pub put-object-spec : {M : Type 1} → statement M
 put-object-spec =
     tie.close
     (tie.spec
+    add-if1
+    returns
     mul-kind
     slice-set-from-kind
     add-px
@@ -88,4 +96,4 @@ put-object-spec =
     mul-qy
     slice-set-from-qy
     same-length
-    returns)
+    returns-2)
