@@ -1,0 +1,72 @@
+use Prim.Native.Nat.{_-_, _≤_}
+use mathlib.Core.Path.{_≡_, refl, sym, ap, _∙_}
+use lib.IntN.{pos}
+use native.Mathlib.Omega.{arith}
+use borrow.Author.Needs.{needs}
+use Rattle.whole.specs.Bound.{fits64, w-pos}
+use Rattle.whole.specs.Tests.{fits-ok, out-is, eq-taken, eq-left}
+use Rattle.sheet.specs.Refusal.{objectRefusal}
+use Rattle.sheet.specs.Lists.{firstRefusal, objectsRefusal}
+use Rattle.sheet.specs.ListsLaws.{one-accepted, one-refused}
+use Rattle.sheet.proofs.lists.objects_refusal.Statement.{statement}
+use Rattle.sheet.proofs.lists.objects_refusal.Tie as tie
+
+abbrev Inv-loop : tie.InvT-loop
+Inv-loop list n i₀ i = (i ≤ n) × (objectsRefusal list i ≡ pos 0)
+
+abbrev μ-loop : tie.MeasureT-loop
+μ-loop list n i₀ i = n - i
+
+loop-holds : tie.Need-loop-holds Inv-loop μ-loop
+unfolding firstRefusal
+loop-holds c = (search needs, refl)
+
+object-at-requires : tie.Need-object-at-requires Inv-loop μ-loop
+object-at-requires c κs = search needs
+
+object-refusal-requires : tie.Need-object-refusal-requires Inv-loop μ-loop
+object-refusal-requires c κs = search needs
+
+returns : tie.Need-returns Inv-loop μ-loop
+returns c =
+    let at = c .before .before .before .before in
+    let l = at .before .args .list .now in
+    let r = c .before .object-refusal in
+    let is = r .ensures .0 ∙ ap objectRefusal (c .before .before .object-at .ensures) in
+    out-is (fits-ok (r .result) (r .ok)) ∙ is
+    ∙ one-refused l (at .loop .i) (at .loop .inv .1) (at .before .args .n) (omega arith) (λ z. eq-left {x = r .result} {y = pos 0} (c .if1 .taken) (is ∙ z))
+
+add-i : tie.Need-add-i Inv-loop μ-loop
+add-i c = search needs
+
+loop-less : tie.Need-loop-less Inv-loop μ-loop
+loop-less c = search needs
+
+loop-again : tie.Need-loop-again Inv-loop μ-loop
+loop-again c =
+    let at = c .before .before .before .before in
+    let l = at .before .args .list .now in
+    let r = c .before .object-refusal in
+    let is = r .ensures .0 ∙ ap objectRefusal (c .before .before .object-at .ensures) in
+    (omega arith, one-accepted l (at .loop .i) (at .loop .inv .1) (sym is ∙ eq-taken (fits-ok (r .result) (r .ok)) (fits64 (w-pos 0) tt) (c .if1 .left)))
+
+returns-2 : tie.Need-returns-2 Inv-loop μ-loop
+returns-2 c =
+    let at = c .before in
+    let done : at .loop .i ≡ at .before .args .n = omega arith in
+    sym (ap (objectsRefusal (at .before .args .list .now)) (sym done) ∙ at .loop .inv .1)
+
+pub objects-refusal-spec : {M : Type 1} → statement M
+objects-refusal-spec =
+    tie.close
+    (tie.spec
+    Inv-loop
+    μ-loop
+    loop-holds
+    object-at-requires
+    object-refusal-requires
+    returns
+    add-i
+    loop-less
+    loop-again
+    returns-2)
