@@ -11,10 +11,10 @@ ghost use lib.IntN.{pos};
 ghost use lib.ListN.{length};
 ghost use lib.Seq.{sets};
 ghost use Rattle.sheet.specs.Limits.{most};
-ghost use Rattle.listing.specs.Lists.{countOf};
-ghost use Rattle.listing.specs.ListsLaws.{Listable, Pair};
+ghost use Rattle.sheet.specs.Lists.{countOf};
+ghost use Rattle.sheet.specs.ListsLaws.{Listable};
 ghost use Rattle.listing.specs.Rows.{rowWidth, meetingOf, rowOf, rowsWith, isSome, sharingWith};
-ghost use Rattle.listing.specs.RowsLaws.{meetingBy};
+ghost use Rattle.listing.specs.RowsLaws.{Pair, meetingBy};
 ghost use Rattle.listing.specs.ListingLaws.{lacking};
 
 // What objects i and j share.

@@ -5,7 +5,7 @@ use native.Mathlib.Omega.{arith}
 use lib.IntN.{ℤ}
 use borrow.Author.Needs.{needs}
 use Rattle.listing.specs.InTurn.{sumOf}
-use Rattle.listing.specs.Lists.{countOf}
+use Rattle.sheet.specs.Lists.{countOf}
 use Rattle.listing.specs.Rows.{sharingWith}
 use Rattle.listing.specs.RowsLaws.{first-counts-none, first-counts-more, first-counts-most}
 use Rattle.listing.proofs.all.count_rows.Statement.{statement}

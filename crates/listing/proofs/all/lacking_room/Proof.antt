@@ -1,5 +1,5 @@
 use native.Mathlib.Omega.{arith}
-use Rattle.listing.specs.Lists.{countOf}
+use Rattle.sheet.specs.Lists.{countOf}
 use Rattle.listing.specs.Rows.{sharing}
 use Rattle.listing.specs.RowsLaws.{square-most, square-least, rows-most, length-rows, first-counts-most}
 use Rattle.listing.specs.ListingLaws.{lacks-none, lacks}

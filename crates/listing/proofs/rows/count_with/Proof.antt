@@ -3,7 +3,7 @@ use mathlib.Core.Path.{_≡_, sym, ap, ap₂, _∙_}
 use native.Mathlib.Omega.{arith}
 use borrow.Author.Needs.{needs}
 use Rattle.listing.specs.InTurn.{sumOf}
-use Rattle.listing.specs.Lists.{countOf}
+use Rattle.sheet.specs.Lists.{countOf}
 use Rattle.listing.specs.Rows.{pairCount}
 use Rattle.listing.specs.RowsLaws.{counts-none, counts-more, counts-most}
 use Rattle.listing.proofs.rows.count_with.Statement.{statement}

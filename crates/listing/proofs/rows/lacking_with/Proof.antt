@@ -1,5 +1,5 @@
 use native.Mathlib.Omega.{arith}
-use Rattle.listing.specs.Lists.{countOf}
+use Rattle.sheet.specs.Lists.{countOf}
 use Rattle.listing.specs.Rows.{sharingWith}
 use Rattle.listing.specs.RowsLaws.{rows-with-most, length-rows-with, counts-most}
 use Rattle.listing.specs.ListingLaws.{lacks-none, lacks}
