@@ -5,7 +5,7 @@ use reading::fill;
 use reading::read_count;
 use reading::read_object;
 use sheet::Object;
-use writing::list_refusal;
+use sheet::lists::list_refusal;
 use writing::number_size;
 use writing::objects_size;
 use writing::write_number;

@@ -10,7 +10,8 @@ use lib.Seq.{sets, length-sets}
 use Rattle.sheet.specs.declared.Object.{Object}
 use Rattle.store.specs.Tells.{Tells}
 use Rattle.sheet.specs.Answers.{objectNumbers}
-use Rattle.store.specs.Stored.{width, Drawing, readObject, readObjects}
+use Rattle.sheet.specs.Lists.{width}
+use Rattle.store.specs.Stored.{Drawing, readObject, readObjects}
 use Rattle.store.specs.TellsLaws.{tells-rest}
 use Rattle.store.specs.ObjectsLaws.{objects-step, objects-fine, objects-length, objects-past}
 use Rattle.store.specs.FillLaws.{sets-two, sets-front}
