@@ -1,8 +1,7 @@
--- Things in turn, the first n of f 0, f 1, f 2, ..: joined as lists, added up, or the first refusal among them.
+-- Things in turn, the first n of f 0, f 1, f 2, ..: joined as lists, or added up.
 use Prim.Native.Nat.{ℕ, zero, suc, _+_}
 use mathlib.Core.List.{List, [], _++_}
-use lib.IntN.{ℤ, pos}
-use Rattle.sheet.specs.Signs.{orElse}
+use lib.IntN.{ℤ}
 
 unfoldable pub inTurn : {A : Type 0} → (A → A → A) → A → (ℕ → A) → ℕ → A
 inTurn join start f zero = start
@@ -14,7 +13,3 @@ allOf f n = inTurn _++_ [] f n
 
 abbrev pub sumOf : (ℕ → ℕ) → ℕ → ℕ
 sumOf f n = inTurn _+_ 0 f n
-
--- "each object in turn": the first number that is not 0
-abbrev pub firstOf : (ℕ → ℤ) → ℕ → ℤ
-firstOf f n = inTurn orElse (pos 0) f n

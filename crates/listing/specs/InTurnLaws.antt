@@ -1,50 +1,23 @@
 -- The laws of things in turn. To cite:
 --   turn-more             one more of them, counted as the code does
---   first-stays           a refusal that is found stays the first
---   first-none, none-first   no refusal is found exactly where there is none
 --   length-grows, length-most, length-sum, length-below   how long lists are one after another
 --   sum-none, sum-shift, sum-later    sums
 -- Assumes nothing.
-use mathlib.Core.Path.{_≡_, refl, sym, ap, ap₂, _∙_}
+use mathlib.Core.Path.{_≡_, refl, ap, ap₂, _∙_}
 use mathlib.Core.List.{List}
 use Prim.Native.Nat.{ℕ, zero, suc, _+_, _-_, _*_, _/_, _≤_, _<_}
 use native.Mathlib.Numerals.{add-one}
 use native.Mathlib.Decide.{le-ind}
 use native.Mathlib.Omega.{arith}
 use native.Mathlib.Nat.{add-zero, add-suc, mul-suc, suc-mul, add-mul}
-use lib.IntN.{ℤ, pos}
+use lib.IntN.{ℤ}
 use lib.ListN.{length, length-append}
-use Rattle.whole.specs.Tests.{ne-eqZ, eq-eqZ}
-use Rattle.sheet.specs.AnswersLaws.{or-zero}
-use Rattle.listing.specs.InTurn.{inTurn, allOf, sumOf, firstOf}
+use Rattle.listing.specs.InTurn.{inTurn, allOf, sumOf}
 
 pub turn-more : {A : Type 0} (join : A → A → A) (start : A) (f : ℕ → A) (n : ℕ)
     → inTurn join start f (n + 1) ≡ join (inTurn join start f n) (f n)
 unfolding inTurn
 turn-more join start f n = ap (inTurn join start f) (add-one n)
-
--- ---- the first refusal
-
-module _ (f : ℕ → ℤ) where
-  pub first-stays : (n m : ℕ) → n ≤ m → (firstOf f n ≡ pos 0 → ⊥) → firstOf f m ≡ firstOf f n
-  unfolding inTurn
-  first-stays n m h d = le-ind (λ k. firstOf f k ≡ firstOf f n) refl (λ k _ e. step k e) m h
-    where
-      step : (k : ℕ) → firstOf f k ≡ firstOf f n → firstOf f (suc k) ≡ firstOf f n
-      step k e = let g = ne-eqZ {a = firstOf f k} {b = pos 0} (λ z. d (sym e ∙ z)) in simp g e
-
-  pub first-none : (n : ℕ) → ((i : ℕ) → i < n → f i ≡ pos 0) → firstOf f n ≡ pos 0
-  unfolding inTurn
-  first-none zero h = refl
-  first-none (suc n) h = simp (eq-eqZ (first-none n (λ i k. h i (omega arith)))) (h n (omega arith))
-
-  pub none-first : (n : ℕ) → firstOf f n ≡ pos 0 → (i : ℕ) → i < n → f i ≡ pos 0
-  unfolding inTurn
-  none-first n z i h =
-      ap f refl ∙ or-zero (firstOf f i) (f i) (front (suc i) h) .1
-    where
-      front : (k : ℕ) → k ≤ n → firstOf f k ≡ pos 0
-      front k h = le-ind (λ m. firstOf f m ≡ pos 0 → firstOf f k ≡ pos 0) (λ e. e) (λ m _ g e. g (or-zero (firstOf f m) (f m) e .0)) n h z
 
 -- ---- lists one after another
 

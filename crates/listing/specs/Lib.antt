@@ -1,9 +1,7 @@
 pub mod InTurn
-pub mod Lists
 pub mod Rows
 pub mod Listing
 pub mod InTurnLaws
-pub mod ListsLaws
 pub mod RowsLaws
 pub mod ListingLaws
 pub mod Worked

@@ -10,7 +10,7 @@ use lib.ListN.{length, drop}
 use Rattle.whole.specs.Tests.{eqZ}
 use Rattle.sheet.specs.Signs.{orElse}
 use Rattle.listing.specs.declared.Listed.{Listed}
-use Rattle.listing.specs.Lists.{listRefusal, indexRefusal}
+use Rattle.sheet.specs.Lists.{listRefusal, indexRefusal}
 use Rattle.listing.specs.Rows.{rowWidth, limitsWith, limitsOf}
 
 -- "A list: 14, 11, each object in turn, 12, then 10"

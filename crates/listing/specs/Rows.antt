@@ -7,8 +7,8 @@ use lib.Dec.{ltb}
 use lib.IntN.{ℤ, pos}
 use Rattle.sheet.specs.Points.{numbers}
 use Rattle.sheet.specs.Crossing.{Meeting, none, point, many, crossingOf, limitsRefusal}
-use Rattle.listing.specs.InTurn.{allOf, sumOf, firstOf}
-use Rattle.listing.specs.Lists.{countOf, objectAt}
+use Rattle.listing.specs.InTurn.{allOf, sumOf}
+use Rattle.sheet.specs.Lists.{countOf, objectAt, firstRefusal}
 
 -- "Each row is eight numbers"
 abbrev pub rowWidth : ℕ
@@ -60,7 +60,7 @@ sharing l = sumOf (λ i. sharingWith l i) (countOf l)
 -- ---- "12: a crossing's reduced numbers are outside the limits for points": the first pair's, by i and then j
 
 abbrev pub limitsWith : List ℤ → ℕ → ℤ
-limitsWith l i = firstOf (λ k. limitsRefusal (meetingOf l i (i + 1 + k))) (laterOf l i)
+limitsWith l i = firstRefusal (λ k. limitsRefusal (meetingOf l i (i + 1 + k))) (laterOf l i)
 
 abbrev pub limitsOf : List ℤ → ℤ
-limitsOf l = firstOf (λ i. limitsWith l i) (countOf l)
+limitsOf l = firstRefusal (λ i. limitsWith l i) (countOf l)

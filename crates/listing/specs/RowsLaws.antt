@@ -1,4 +1,5 @@
 -- The laws of rows. To cite:
+--   Pair                   two objects of a list that is not refused
 --   meetingBy, met-by      what the kernel's answer says, as the paper's
 --   rowsBefore, rows-none, rows-more, rows-room   the rows of object i with the later ones before j, as the code goes
 --   rowsFirst, first-rows-none, first-rows-more, first-rows-room   the rows of the objects before i
@@ -25,9 +26,9 @@ use Rattle.sheet.specs.AnswersLaws.{point-one}
 use Rattle.sheet.specs.Crossing.{Meeting, none, point, many, limitsRefusal}
 use Rattle.sheet.specs.CrossingLaws.{crossing-limits}
 use Rattle.listing.specs.InTurn.{inTurn, allOf, sumOf}
-use Rattle.listing.specs.InTurnLaws.{turn-more, first-none, length-grows, length-most, length-sum, length-below, sum-shift, sum-none, sum-later}
-use Rattle.listing.specs.Lists.{countOf}
-use Rattle.listing.specs.ListsLaws.{Listable}
+use Rattle.listing.specs.InTurnLaws.{turn-more, length-grows, length-most, length-sum, length-below, sum-shift, sum-none, sum-later}
+use Rattle.sheet.specs.Lists.{countOf}
+use Rattle.sheet.specs.ListsLaws.{Listable, first-none}
 use Rattle.listing.specs.Rows.{rowWidth, meetingOf, rowBy, rowOf, laterOf, rowsWith, rowsOf, isSome, pairCount, sharingWith, sharing, limitsWith, limitsOf}
 
 -- ---- the square of a count
@@ -40,6 +41,11 @@ square-least zero = omega arith
 square-least (suc n) = le-mul-of-pos-right (suc n) (omega arith)
 
 -- ---- one pair
+
+pub record Pair (l : List ℤ) (i j : ℕ) : Type 0 where
+  pub list : Listable l
+  pub one : i < countOf l
+  pub two : j < countOf l
 
 -- what the kernel's answer says; of accepted objects it never refuses
 abbrev pub meetingBy : Crossing → Meeting

@@ -10,7 +10,7 @@ use Rattle.sheet.specs.Points.{divided, narrow, standard, frame, isPoint}
 use Rattle.sheet.specs.Ends.{farRaw, farEnd}
 use Rattle.sheet.specs.Crossing.{pieces, withSide, withPiece, meeting, crossingOf}
 use Rattle.listing.specs.InTurn.{inTurn}
-use Rattle.listing.specs.Lists.{objectAt, listRefusal}
+use Rattle.sheet.specs.Lists.{firstRefusal, listRefusal}
 use Rattle.listing.specs.Rows.{meetingOf, rowsOf, sharing}
 use Rattle.listing.specs.Listing.{allRefusal}
 
@@ -31,7 +31,7 @@ pub record WorkedListing : Type 0 where
   two-pairs : sharing objects ≡ 2
 
 pub worked-listing : WorkedListing
-unfolding inTurn objectAt listRefusal meetingOf pairRefusal sideRefusal objectRefusal pieces withSide withPiece meeting crossingOf sgn steps gcd gcdOf sideOf figure divided farRaw farEnd narrow standard frame isPoint
+unfolding inTurn firstRefusal listRefusal meetingOf pairRefusal sideRefusal objectRefusal pieces withSide withPiece meeting crossingOf sgn steps gcd gcdOf sideOf figure divided farRaw farEnd narrow standard frame isPoint
 worked-listing = record {
   not-refused = refl;
   two-rows = refl;

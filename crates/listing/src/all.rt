@@ -7,7 +7,7 @@ ghost use mathlib.Core.Path.{_≡_};
 ghost use Prim.Native.Nat.{_≤_};
 ghost use lib.ListN.{length};
 ghost use lib.Seq.{sets};
-ghost use Rattle.listing.specs.ListsLaws.{Listable};
+ghost use Rattle.sheet.specs.ListsLaws.{Listable};
 ghost use Rattle.listing.specs.Rows.{rowsOf, sharing};
 ghost use Rattle.listing.specs.ListingLaws.{lacking};
 

@@ -13,10 +13,10 @@ ghost use lib.Seq.{sets};
 ghost use Rattle.sheet.specs.Limits.{most};
 ghost use Rattle.sheet.specs.Refusal.{Accepted};
 ghost use Rattle.sheet.specs.Crossing.{crossingOf};
-ghost use Rattle.listing.specs.Lists.{countOf, objectAt};
-ghost use Rattle.listing.specs.ListsLaws.{Listable, Pair};
+ghost use Rattle.sheet.specs.Lists.{countOf, objectAt};
+ghost use Rattle.sheet.specs.ListsLaws.{Listable};
 ghost use Rattle.listing.specs.Rows.{rowWidth, rowOf, rowsWith, sharingWith};
-ghost use Rattle.listing.specs.RowsLaws.{meetingBy};
+ghost use Rattle.listing.specs.RowsLaws.{Pair, meetingBy};
 ghost use Rattle.listing.specs.ListingLaws.{lacking};
 
 // The most numbers that the rows of one object are.

@@ -19,15 +19,14 @@ use Rattle.whole.specs.Order.{≤-<-trans, <-≤-trans}
 use Rattle.whole.specs.Tests.{eqZ, cond-by, lt-ltZ}
 use Rattle.sheet.specs.declared.Object.{Object}
 use Rattle.sheet.specs.Figure.{Vec, Figure, segment, ray, line, side, sideOf, first, second, figure}
-use Rattle.sheet.specs.Refusal.{objectRefusal}
+use Rattle.sheet.specs.Refusal.{Accepted}
+use Rattle.sheet.specs.Lists.{objectFrom, objectAt}
 use Rattle.sheet.specs.RefusalLaws.{Small, Taken, a-segment, a-ray, a-line, a-side, accepted-taken}
-use Rattle.sheet.specs.AnswersLaws.{or-zero}
 use Rattle.screen.specs.declared.Extent.{Extent}
 use Rattle.screen.specs.declared.Boxed.{Boxed}
 use Rattle.screen.specs.declared.Boxed.the-variants.{Around, Refused}
 use Rattle.screen.specs.Told.{Told}
-use Rattle.screen.specs.Lists.{objectsRefusal}
-use Rattle.screen.specs.ListsLaws.{objectAt}
+use Rattle.screen.specs.Lists.{nextObjects}
 use Rattle.screen.specs.Extents.{standardEnds, endsOf, beyond, farther, part, farthest, extreme, isNone, flag, extentSays, boxedSays}
 
 -- ---- no two answers say the same
@@ -59,12 +58,12 @@ box-one (Refused n) (Refused m) e = let f = ap (λ (t : Told). t .wholes) e in l
 -- ---- one more object
 
 module _ (l : List ℤ) (at : ℕ) where
-  pub first-part : (axis : ℕ) → axis < 2 → getD l (at + 1 + axis) (pos 0) ≡ part axis (first (objectAt l at))
+  pub first-part : (axis : ℕ) → axis < 2 → getD l (at + 1 + axis) (pos 0) ≡ part axis (first (objectFrom l at))
   first-part zero h = ap (λ (k : ℕ). getD l k (pos 0)) (omega arith)
   first-part (suc zero) h = ap (λ (k : ℕ). getD l k (pos 0)) (omega arith)
   first-part (suc (suc n)) h = absurd (omega arith)
 
-  pub second-part : (axis : ℕ) → axis < 2 → getD l (at + 3 + axis) (pos 0) ≡ part axis (second (objectAt l at))
+  pub second-part : (axis : ℕ) → axis < 2 → getD l (at + 3 + axis) (pos 0) ≡ part axis (second (objectFrom l at))
   second-part zero h = ap (λ (k : ℕ). getD l k (pos 0)) (omega arith)
   second-part (suc zero) h = ap (λ (k : ℕ). getD l k (pos 0)) (omega arith)
   second-part (suc (suc n)) h = absurd (omega arith)
@@ -103,18 +102,21 @@ pub data AllSmall : List Vec → Type 0 where
   _also_ : {v : Vec} {vs : List Vec} → Small 2000 v → AllSmall vs → AllSmall (v ∷ vs)
 
 infixr 5 _also_
-pub ends-small : (os : List Object) → objectsRefusal os ≡ pos 0 → AllSmall (endsOf os)
-unfolding objectsRefusal endsOf
-ends-small [] h = none
-ends-small (o ∷ os) h =
-    let f = or-zero (objectRefusal o) (objectsRefusal os) h in
-    go (accepted-taken (record { accepted = f .0 })) (ends-small os (f .1))
+also-small : (o : Object) (os : List Object) → Accepted o → AllSmall (endsOf os) → AllSmall (endsOf (o ∷ os))
+unfolding endsOf
+also-small o os h n = go (accepted-taken h) n
   where
     go : Taken o → AllSmall (endsOf os) → AllSmall (standardEnds (figure o) ++ endsOf os)
     go (a-segment k f p) n = subst (λ (g : Figure). AllSmall (standardEnds g ++ endsOf os)) (sym f) (p .small-p also p .small-q also n)
     go (a-ray k f p) n = subst (λ (g : Figure). AllSmall (standardEnds g ++ endsOf os)) (sym f) (p .small-p also n)
     go (a-line k f p) n = subst (λ (g : Figure). AllSmall (standardEnds g ++ endsOf os)) (sym f) n
     go (a-side k s f) n = subst (λ (g : Figure). AllSmall (standardEnds g ++ endsOf os)) (sym f) n
+
+pub ends-small : (l : List ℤ) (i n : ℕ) → ((k : ℕ) → k < i + n → Accepted (objectAt l k)) → AllSmall (endsOf (nextObjects l i n))
+unfolding nextObjects endsOf
+ends-small l i zero h = none
+ends-small l i (suc n) h =
+    also-small (objectAt l i) (nextObjects l (suc i) n) (h i (omega arith)) (ends-small l (suc i) n (λ k b. h k (omega arith)))
 
 part-within : (axis : ℕ) {v : Vec} → Small 2000 v → Within 2000 (part axis v)
 part-within zero s = s .in-x

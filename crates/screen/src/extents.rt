@@ -2,10 +2,9 @@
 use crate::Boxed;
 use crate::Extent;
 use crate::Position;
-use crate::lists::WIDTH;
-use crate::lists::list_refusal;
 use crate::quotient::exact;
 use sheet::Object;
+use sheet::lists::list_refusal;
 ghost use mathlib.Core.Path.{_≡_};
 ghost use mathlib.Core.Bool.{false};
 ghost use mathlib.Core.List.{[]};
@@ -13,9 +12,10 @@ ghost use Prim.Native.Nat.{_%_, _<_};
 ghost use lib.IntN.{pos};
 ghost use lib.ListN.{length};
 ghost use Rattle.whole.specs.Bound.{Within};
+ghost use Rattle.sheet.specs.Lists.{width, listRefusal};
 ghost use Rattle.screen.specs.Quotient.{float};
 ghost use Rattle.screen.specs.Told.{answered};
-ghost use Rattle.screen.specs.Lists.{width, objectsOf, listRefusal};
+ghost use Rattle.screen.specs.Lists.{objectsOf};
 ghost use Rattle.screen.specs.Extents.{endsOf, farther, farthest, extentOf, extentSays, boxedSays};
 ghost use Rattle.screen.specs.ExtentsLaws.{stepped};
 
@@ -54,7 +54,7 @@ fn reach(list: &[i64], up: bool, axis: usize, start: i64) -> i64
         let p = list[at + 1 + axis];
         let q = list[at + 3 + axis];
         far = step(up, far, kind, p, q);
-        at += WIDTH;
+        at += Object::WIDTH;
     }
     far
 }

@@ -1,6 +1,5 @@
 // Places on the screen: where a point is, as floats, and the box of a whole sheet. Every public call takes any numbers.
 pub mod extents;
-mod lists;
 pub mod places;
 mod quotient;
 

@@ -1,7 +1,9 @@
 -- Two answers that meet a function's contract are equal: stated of the contract itself (`Post`), at any arguments.
 use mathlib.Core.Path.{_≡_, sym, _∙_}
+use mathlib.Core.List.{List}
 use lib.IntN.{ℤ}
 use contract.Lifetimes.{Lfts}
+use denote.Ref.{RefT}
 use Rattle.sheet.specs.declared.Object.{Object}
 use Rattle.sheet.specs.declared.Made.{Made}
 use Rattle.sheet.specs.AnswersLaws.{made-one}
@@ -12,6 +14,7 @@ use Rattle.sheet.proofs.Object.side.Reads as side
 use Rattle.sheet.proofs.pair_refusal.Reads as pair-refusal
 use Rattle.sheet.proofs.side_refusal.Reads as side-refusal
 use Rattle.sheet.proofs.object_refusal.Reads as object-refusal
+use Rattle.sheet.proofs.lists.list_refusal.Reads as list-refusal
 
 abbrev Four : Type 0
 Four = ℤ × (ℤ × (ℤ × (ℤ × Unit {0})))
@@ -37,3 +40,7 @@ side-refusal-answer κs a r s p q = p ∙ sym q
 pub object-refusal-answer :
     (κs : Lfts 0) (o : Object) (r s : ℤ) → object-refusal.Post κs (o, tt) r (o, tt) → object-refusal.Post κs (o, tt) s (o, tt) → r ≡ s
 object-refusal-answer κs o r s p q = p .0 ∙ sym (q .0)
+
+pub list-refusal-answer :
+    (κs : Lfts 1) (l : RefT (List ℤ)) (r s : ℤ) → list-refusal.Post κs (l, tt) r (l, tt) → list-refusal.Post κs (l, tt) s (l, tt) → r ≡ s
+list-refusal-answer κs l r s p q = p ∙ sym q

@@ -4,6 +4,7 @@ pub mod Refusal
 pub mod Points
 pub mod Ends
 pub mod Signs
+pub mod Lists
 pub mod Crossing
 pub mod Answers
 pub mod AnswersLaws
@@ -18,3 +19,4 @@ pub mod ReversedLaws
 pub mod AcceptsLaws
 pub mod OnLine
 pub mod CrossingLaws
+pub mod ListsLaws

@@ -1,4 +1,6 @@
 // The vocabulary of a clearance sheet: objects, points, and what a call answers. The paper's definitions are in specs/.
+pub mod lists;
+
 ghost use mathlib.Core.Path.{_≡_};
 ghost use mathlib.Core.Bool.{_||_, _&&_};
 ghost use mathlib.Core.List.{[], _∷_};
@@ -7,6 +9,7 @@ ghost use Rattle.whole.specs.Tests.{eqZ};
 ghost use Rattle.sheet.specs.Limits.{reach, most};
 ghost use Rattle.sheet.specs.Refusal.{outside, anyBeyond, equal, noSide, pairRefusal, sideRefusal, refusalOf, objectRefusal};
 ghost use Rattle.sheet.specs.Answers.{answer, objectNumbers, madeSays};
+ghost use Rattle.sheet.specs.Lists.{width};
 
 // An object of a sheet. Kind 1 is a segment, 2 a ray, 3 a line, each from p toward q; kind 4 is the frame's side of number px.
 pub struct Object {
@@ -57,6 +60,8 @@ impl Object {
     pub const REACH: i64 = 2000;
     // The most objects that a sheet has.
     pub const MOST: usize = 512;
+    // The numbers of an object in a list.
+    pub const WIDTH: usize = 5;
 
     pub const SEGMENT: i64 = 1;
 
@@ -194,10 +199,10 @@ fn refusal_of(kind: i64, px: i64, py: i64, qx: i64, qy: i64) -> i64
     pair_refusal(px, py, qx, qy)
 }
 
-// The refusal of an object: 1, then 4 for kind 4, else 2 and then 3; 0 for none. The brackets hold the type's limits to the paper's.
+// The refusal of an object: 1, then 4 for kind 4, else 2 and then 3; 0 for none. The brackets hold the type's numbers to the paper's.
 pub fn object_refusal(o: Object) -> i64
     ensures { λ r. ⌜ r ≡ objectRefusal o ⌝ }
-    ensures { λ r. do ⌜ ((← ⟦Object::REACH⟧ .entry) ≡ reach) × ((← ⟦Object::MOST⟧ .entry) ≡ most) ⌝ }
+    ensures { λ r. do ⌜ ((← ⟦Object::REACH⟧ .entry) ≡ reach) × ((← ⟦Object::MOST⟧ .entry) ≡ most) × ((← ⟦Object::WIDTH⟧ .entry) ≡ width) ⌝ }
 {
     refusal_of(o.kind, o.px, o.py, o.qx, o.qy)
 }

@@ -3,14 +3,15 @@
 -- lent buffer. An accepted one fills from the front and leaves the rest unchanged. Refusal 10 alone also returns the length needed."
 use mathlib.Core.Bool.{cond}
 use mathlib.Core.List.{List, _++_}
-use Prim.Native.Nat.{ℕ, _/_}
+use Prim.Native.Nat.{ℕ}
 use lib.Dec.{ltb}
 use lib.IntN.{ℤ, pos}
 use lib.ListN.{length, drop}
 use Rattle.whole.specs.Tests.{eqZ}
+use Rattle.sheet.specs.Lists.{countOf, listRefusal}
 use Rattle.store.specs.declared.Read.{Read}
 use Rattle.store.specs.declared.Written.{Written}
-use Rattle.store.specs.Stored.{Drawing, width, writeDrawing, listRefusal}
+use Rattle.store.specs.Stored.{Drawing, writeDrawing}
 
 -- "10: the lent list or byte buffer is too short for the result", after the refusal n
 abbrev pub roomRefusal : {A B : Type 0} → ℤ → List A → List B → ℤ
@@ -28,7 +29,7 @@ unfoldable pub readAnswer : Drawing → List ℤ → Read
 readAnswer d lent =
     record {
       refusal = roomRefusal (d .refusal) (d .objects) lent;
-      count = cond (eqZ (roomRefusal (d .refusal) (d .objects) lent) (pos 0)) (length (d .objects) / width) 0;
+      count = cond (eqZ (roomRefusal (d .refusal) (d .objects) lent) (pos 0)) (countOf (d .objects)) 0;
       length = lengthGiven (d .refusal) (d .objects);
     }
 

@@ -13,9 +13,10 @@ use lib.Signed.{mag}
 use mir.Syntax.{w64}
 use mir.Val.{ofZ}
 use Rattle.whole.specs.Tests.{out, out-ok, eq-left, eq-eqZ, ne-eqZ}
+use Rattle.sheet.specs.Lists.{width, listRefusal}
 use Rattle.store.specs.declared.Read.{Read}
 use Rattle.store.specs.declared.Written.{Written}
-use Rattle.store.specs.Stored.{width, Drawing, writeDrawing, listRefusal}
+use Rattle.store.specs.Stored.{Drawing, writeDrawing}
 use Rattle.store.specs.Answers.{readAnswer, readInto, writeAnswer, writeInto}
 
 abbrev readOf : ℤ → ℕ → ℕ → Read

@@ -5,10 +5,10 @@
 --   write-no-longer     what is written is no longer
 --   longest-reached     and a drawing is as long as that
 -- Assumes nothing.
-use mathlib.Core.Path.{_≡_, refl, sym, ap, _∙_}
+use mathlib.Core.Path.{_≡_, refl, sym, ap, subst, _∙_}
 use mathlib.Core.Bool.{Bool, true, false, cond}
 use mathlib.Core.List.{List, [], _∷_, _++_}
-use Prim.Native.Nat.{_/_, _%_, ℕ, zero, suc, _+_, _*_, _-_, _<_, _≤_}
+use Prim.Native.Nat.{ℕ, zero, suc, _+_, _*_, _-_, _<_, _≤_}
 use native.Mathlib.Omega.{arith}
 use borrow.Author.Tests.{ltb-true, ltb-false, lt-ltb, le-ltb, eqb-false}
 use lib.Dec.{ltb, eqb}
@@ -19,8 +19,10 @@ use Rattle.whole.specs.Tests.{eqZ-false}
 use Rattle.sheet.specs.declared.Object.{Object}
 use Rattle.sheet.specs.Figure.{Vec}
 use Rattle.sheet.specs.Limits.{most}
-use Rattle.sheet.specs.Refusal.{outside, beyond, equal, pairRefusal, objectRefusal}
-use Rattle.store.specs.Stored.{Drawing, Reading, got, no, next, checked, pairOf, longest, andThen, counted, refused, before, writeDrawing, listRefusal, readGroups, readNumber, unzigzag, readCoordinate, sideObject, readSide, readPoint, readTo, readPair, readShape, readObject, readObjects, readCount, readDrawing, width, writeGroups, writeShape, writeObject, writeObjects, objectsRefusal}
+use Rattle.sheet.specs.Refusal.{outside, beyond, equal, pairRefusal, objectRefusal, Accepted}
+use Rattle.sheet.specs.Lists.{width, countOf, objectAt, listRefusal}
+use Rattle.sheet.specs.ListsLaws.{is-listable, object-next}
+use Rattle.store.specs.Stored.{Drawing, Reading, got, no, next, checked, pairOf, longest, andThen, counted, refused, before, writeDrawing, readGroups, readNumber, unzigzag, readCoordinate, sideObject, readSide, readPoint, readTo, readPair, readShape, readObject, readObjects, readCount, readDrawing, writeGroups, writeShape, writeObject, writeObjects}
 use Rattle.store.specs.SureLaws.{Sure, sure-number, sure-object}
 use Rattle.store.specs.SureLaws as sure
 use Rattle.store.specs.StoredLaws.{read-written}
@@ -225,10 +227,11 @@ unfolding longSegments
 segments-many zero = refl
 segments-many (suc n) = omega (arith, segments-many n)
 
-segments-taken : (n : ℕ) → objectsRefusal n (longSegments n) ≡ pos 0
-unfolding longSegments objectsRefusal objectRefusal pairRefusal
-segments-taken zero = refl
-segments-taken (suc n) = segments-taken n
+segments-taken : (n i : ℕ) → i < n → Accepted (objectAt (longSegments n) i)
+unfolding longSegments objectRefusal pairRefusal
+segments-taken zero i h = absurd (omega arith)
+segments-taken (suc n) zero h = record { accepted = refl }
+segments-taken (suc n) (suc i) h = subst Accepted (object-next (longSegments (suc n)) i) (segments-taken n i (omega arith))
 
 segments-long : (n : ℕ) → length (writeObjects n (longSegments n)) ≡ n * 9
 unfolding longSegments writeObjects writeObject writeShape writeGroups
@@ -236,9 +239,11 @@ segments-long zero = refl
 segments-long (suc n) = omega (arith, segments-long n)
 
 pub longest-reached : (listRefusal (longSegments most) ≡ pos 0) × (length (writeDrawing (longSegments most)) ≡ longest)
-unfolding listRefusal writeDrawing writeGroups
+unfolding writeDrawing writeGroups
 longest-reached =
     let many = segments-many most in
-    let count : length (longSegments most) / width ≡ most = omega arith in
-    let five : length (longSegments most) % width ≡ 0 = omega arith in
-    (simp (five, count) (segments-taken most), simp count (omega (arith, segments-long most)))
+    let count : countOf (longSegments most) ≡ most = omega arith in (
+      is-listable (longSegments most)
+          (record { whole = omega arith; few = omega arith; each = λ i h. segments-taken most i (omega arith) }),
+      simp count (omega (arith, segments-long most)),
+    )

@@ -11,13 +11,14 @@ use denote.Ref.{now}
 use Rattle.whole.specs.Tests.{eqZ}
 use Rattle.sheet.specs.declared.Object.{Object}
 use Rattle.sheet.specs.Answers.{objectNumbers}
+use Rattle.sheet.specs.Lists.{width, objectAt}
 use Rattle.store.specs.declared.Place.{Place}
 use Rattle.store.specs.declared.Item.{Item}
 use Rattle.store.specs.declared.Item.the-variants.{One, End, Refused}
 use Rattle.store.specs.declared.Stepped.{Stepped}
 use Rattle.store.specs.declared.Reader.{Reader}
 use Rattle.store.specs.declared.Taken.{Taken}
-use Rattle.store.specs.Stored.{Drawing, Reading, got, no, width, objectAt, readObject, readCount}
+use Rattle.store.specs.Stored.{Drawing, Reading, got, no, readObject, readCount}
 
 -- before the first call: "its first call also reads the count"
 abbrev pub startPlace : Place
@@ -66,7 +67,7 @@ abbrev pub endOf : ℤ → Item
 endOf n = cond (eqZ n (pos 0)) End (Refused n)
 
 unfoldable pub itemOf : Drawing → ℕ → Item
-itemOf d k = cond (ltb (k * width) (length (d .objects))) (One (objectAt (d .objects) (k * width))) (endOf (d .refusal))
+itemOf d k = cond (ltb (k * width) (length (d .objects))) (One (objectAt (d .objects) k)) (endOf (d .refusal))
 
 -- what an item says, as the paper's numbers: 0 and the five of an object, nothing at the end, the number of a refusal
 abbrev pub itemSays : Item → List ℤ

@@ -11,15 +11,17 @@ use native.Mathlib.Omega.{arith}
 use borrow.Author.Tests.{lt-ltb, le-ltb, ltb-true, ltb-false}
 use lib.Dec.{ltb}
 use lib.IntN.{ℤ, pos}
-use lib.ListN.{length, getD, drop, length-append, length-drop}
-use lib.Seq.{drop-drop, drop-at, getD-append-add}
+use lib.ListN.{length, drop, length-append, length-drop}
+use lib.Seq.{drop-drop, drop-at}
 use Rattle.sheet.specs.declared.Object.{Object}
 use Rattle.sheet.specs.Answers.{objectNumbers}
+use Rattle.sheet.specs.Lists.{width}
+use Rattle.sheet.specs.ListsLaws.{object-next}
 use Rattle.store.specs.declared.Place.{Place}
 use Rattle.store.specs.declared.Item.{Item}
 use Rattle.store.specs.declared.Item.the-variants.{One, End, Refused}
 use Rattle.store.specs.declared.Stepped.{Stepped}
-use Rattle.store.specs.Stored.{width, Drawing, Reading, got, no, refused, before, andThen, counted, readObject, readObjects, readCount, readDrawing}
+use Rattle.store.specs.Stored.{Drawing, Reading, got, no, refused, before, andThen, counted, readObject, readObjects, readCount, readDrawing}
 use Rattle.store.specs.Reader.{startPlace, placeOf, stepTo, stepObject, stepFrom, stepCounted, stepOf, callFrom, endOf, itemOf, itemSays}
 use Rattle.store.specs.SureLaws.{Sure, sure-object, sure-count}
 use Rattle.store.specs.SureLaws as sure
@@ -57,19 +59,11 @@ unfolding itemOf
 item-next o d k =
     let l = d .objects in
     let row = objectNumbers o in
-    let at : (j : ℕ) → getD (row ++ l) (suc k * width + j) (pos 0) ≡ getD l (k * width + j) (pos 0) =
-    λ j. let e : suc k * width + j ≡ width + (k * width + j) = omega arith in
-    ap (λ (i : ℕ). getD (row ++ l) i (pos 0)) e ∙ getD-append-add row l (k * width + j) (pos 0) in
-    let front : getD (row ++ l) (suc k * width) (pos 0) ≡ getD l (k * width) (pos 0) =
-    let e : suc k * width ≡ suc k * width + 0 = omega arith in
-    let f : k * width + 0 ≡ k * width = omega arith in
-    ap (λ (i : ℕ). getD (row ++ l) i (pos 0)) e ∙ at 0 ∙ ap (λ (i : ℕ). getD l i (pos 0)) f in
     let five : suc k * width ≡ width + k * width = omega arith in
     let long : length (row ++ l) ≡ width + length l = omega (arith, length-append row l) in
     let test : ltb (suc k * width) (length (row ++ l)) ≡ ltb (k * width) (length l) = (λ i. ltb (five i) (long i)) ∙ shift (k * width)
     (length l) in
-    λ i. cond (test i)
-    (One (record { kind = front i; px = at 1 i; py = at 2 i; qx = at 3 i; qy = at 4 i })) (endOf (d .refusal))
+    λ i. cond (test i) (One (sym (object-next (row ++ l) k) i)) (endOf (d .refusal))
 
 -- ---- calls
 

@@ -4,7 +4,8 @@ use mathlib.Core.List.{List, [], _∷_}
 use Prim.Native.Nat.{ℕ}
 use lib.IntN.{ℤ, pos}
 use Rattle.sheet.specs.Refusal.{sideRefusal, pairRefusal, objectRefusal}
-use Rattle.store.specs.Stored.{writeGroups, writeShape, writeObject, writeObjects, writeDrawing, objectsRefusal, listRefusal, readGroups, readCoordinate, readSide, readPoint, readTo, readPair, readShape, readObject, readObjects, readCount, readDrawing}
+use Rattle.sheet.specs.Lists.{firstRefusal, listRefusal}
+use Rattle.store.specs.Stored.{writeGroups, writeShape, writeObject, writeObjects, writeDrawing, readGroups, readCoordinate, readSide, readPoint, readTo, readPair, readShape, readObject, readObjects, readCount, readDrawing}
 
 -- `03 03 00 00 04 02 01 00 04 04 00 04 03`
 pub row-bytes : List ℕ
@@ -21,5 +22,5 @@ pub record RowTen : Type 0 where
   back : writeDrawing row-objects ≡ row-bytes
 
 pub row-ten : RowTen
-unfolding row-bytes row-objects writeGroups writeShape writeObject writeObjects writeDrawing objectsRefusal listRefusal readGroups readCoordinate readSide readPoint readTo readPair readShape readObject readObjects readCount readDrawing sideRefusal pairRefusal objectRefusal
+unfolding row-bytes row-objects writeGroups writeShape writeObject writeObjects writeDrawing firstRefusal listRefusal readGroups readCoordinate readSide readPoint readTo readPair readShape readObject readObjects readCount readDrawing sideRefusal pairRefusal objectRefusal
 row-ten = record { given = refl; taken = refl; back = refl }

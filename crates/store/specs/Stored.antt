@@ -1,33 +1,18 @@
 -- "Stored drawing" of document 01: what is written for a list of objects, and what is read of bytes. Definitions alone; their laws are
--- in StoredLaws.
--- A list of objects is a list of numbers, `width` an object: kind, px, py, qx, qy; for a side 4, its number, 0, 0, 0.
-use mathlib.Core.Bool.{Bool, cond, not}
+-- in StoredLaws. Lists of objects are those of sheet/specs/Lists.
+use mathlib.Core.Bool.{Bool, cond}
 use mathlib.Core.List.{List, [], _∷_, _++_}
 use Prim.Native.Nat.{ℕ, zero, suc, _+_, _*_, _-_, _/_, _%_}
 use lib.Dec.{ltb, eqb}
 use lib.IntN.{ℤ, pos, negsuc, natAbs}
-use lib.ListN.{length, getD, drop}
+use lib.ListN.{drop}
 use Rattle.whole.specs.Tests.{eqZ}
 use Rattle.sheet.specs.declared.Object.{Object}
 use Rattle.sheet.specs.Figure.{Vec}
 use Rattle.sheet.specs.Limits.{most}
-use Rattle.sheet.specs.Refusal.{outside, beyond, equal, objectRefusal}
+use Rattle.sheet.specs.Refusal.{outside, beyond, equal}
 use Rattle.sheet.specs.Answers.{objectNumbers}
-use Rattle.sheet.specs.Signs.{orElse}
-
--- "Objects, each of five whole numbers"
-abbrev pub width : ℕ
-width = 5
-
-abbrev pub objectAt : List ℤ → ℕ → Object
-objectAt l k =
-    record {
-      kind = getD l k (pos 0);
-      px = getD l (k + 1) (pos 0);
-      py = getD l (k + 2) (pos 0);
-      qx = getD l (k + 3) (pos 0);
-      qy = getD l (k + 4) (pos 0);
-    }
+use Rattle.sheet.specs.Lists.{width, countOf, objectFrom}
 
 -- "in the fewest groups, two at most": how many may come after the first
 abbrev pub moreGroups : ℕ
@@ -73,21 +58,11 @@ writeObject o = writeNumber (natAbs (o .kind)) ++ writeShape (o .kind) (o .px) (
 -- the first n objects of a list
 unfoldable pub writeObjects : ℕ → List ℤ → List ℕ
 writeObjects zero l = []
-writeObjects (suc n) l = writeObject (objectAt l 0) ++ writeObjects n (drop width l)
+writeObjects (suc n) l = writeObject (objectFrom l 0) ++ writeObjects n (drop width l)
 
 -- "First the count."
 unfoldable pub writeDrawing : List ℤ → List ℕ
-writeDrawing l = writeNumber (length l / width) ++ writeObjects (length l / width) l
-
--- "A list: 14, 11, each object in turn"
-unfoldable pub objectsRefusal : ℕ → List ℤ → ℤ
-objectsRefusal zero l = pos 0
-objectsRefusal (suc n) l = orElse (objectRefusal (objectAt l 0)) (objectsRefusal n (drop width l))
-
-unfoldable pub listRefusal : List ℤ → ℤ
-listRefusal l =
-    cond (not (eqb (length l % width) 0)) (pos 14)
-    (cond (ltb most (length l / width)) (pos 11) (objectsRefusal (length l / width) l))
+writeDrawing l = writeNumber (countOf l) ++ writeObjects (countOf l) l
 
 -- ---- reading
 

@@ -4,42 +4,40 @@
 --   written-read   what was read is written as it was, and is an accepted list
 --   same-bytes     two drawings with the same objects have the same bytes
 -- Assumes nothing.
-use mathlib.Core.Path.{_≡_, refl, sym, ap, _∙_}
-use mathlib.Core.Bool.{Bool, true, false, cond}
+use mathlib.Core.Path.{_≡_, refl, sym, ap, subst, _∙_}
+use mathlib.Core.Bool.{Bool, true, false}
 use mathlib.Core.List.{List, [], _∷_, _++_}
-use Prim.Native.Nat.{ℕ, zero, suc, _+_, _*_, _-_, _/_, _%_, _<_, _≤_}
+use Prim.Native.Nat.{ℕ, zero, suc, _+_, _*_, _<_, _≤_}
 use native.Mathlib.Omega.{arith}
 use borrow.Author.Tests.{le-ltb, ltb-false}
 use lib.Dec.{ltb}
 use lib.IntN.{ℤ, pos}
 use lib.ListN.{length}
-use Rattle.whole.specs.Tests.{eqZ, eqZ-true, eqZ-false, eq-eqZ}
+use Rattle.whole.specs.Tests.{eqZ-false}
 use Rattle.sheet.specs.declared.Object.{Object}
 use Rattle.sheet.specs.Limits.{most}
-use Rattle.sheet.specs.Refusal.{objectRefusal}
-use Rattle.sheet.specs.Signs.{orElse}
-use Rattle.store.specs.Stored.{numberLimit, width, Drawing, Reading, next, checked, refused, before, andThen, counted, writeNumber, writeObject, writeObjects, writeDrawing, objectsRefusal, listRefusal, readObjects, readCount, readDrawing}
+use Rattle.sheet.specs.Refusal.{objectRefusal, Accepted}
+use Rattle.sheet.specs.Answers.{objectNumbers}
+use Rattle.sheet.specs.Lists.{width, countOf, objectAt, listRefusal}
+use Rattle.sheet.specs.ListsLaws.{listable, is-listable, object-next}
+use Rattle.store.specs.Stored.{numberLimit, Drawing, Reading, next, checked, refused, before, andThen, counted, writeNumber, writeObject, writeObjects, writeDrawing, readObjects, readCount, readDrawing}
 use Rattle.store.specs.SureLaws.{Sure, sure-object, sure-count}
 use Rattle.store.specs.SureLaws as sure
 use Rattle.store.specs.ObjectsLaws.{objects-length}
-use Rattle.store.specs.ListLaws.{list-fine}
 use Rattle.store.specs.Trip.{Bytes, behind-bytes, From, from, not, number-back, number-from}
 use Rattle.store.specs.ObjectTrip.{object-back, object-from}
 
 abbrev taken : List ℤ → Drawing
 taken l = record { objects = l; refusal = pos 0 }
 
-or-zero : (n m : ℤ) → orElse n m ≡ pos 0 → (n ≡ pos 0) × (m ≡ pos 0)
-or-zero n m e = go (eqZ n (pos 0)) (λ z. eqZ-true z) (λ z. eqZ-false z) e
-  where
-    go : (t : Bool) → (t ≡ true → n ≡ pos 0) → (t ≡ false → n ≡ pos 0 → ⊥) → cond t m n ≡ pos 0 → (n ≡ pos 0) × (m ≡ pos 0)
-    go true y z e = (y refl, e)
-    go false y z e = absurd (z refl e)
+-- the first n objects of a list are accepted
+abbrev Each : ℕ → List ℤ → Type 0
+Each n l = (i : ℕ) → i < n → Accepted (objectAt l i)
 
 -- ---- written, and then read
 
-objects-back : (n : ℕ) (l : List ℤ) → length l ≡ n * width → objectsRefusal n l ≡ pos 0 → readObjects n (writeObjects n l) ≡ taken l
-unfolding objectsRefusal readObjects writeObjects
+objects-back : (n : ℕ) (l : List ℤ) → length l ≡ n * width → Each n l → readObjects n (writeObjects n l) ≡ taken l
+unfolding readObjects writeObjects
 objects-back zero [] e h = refl
 objects-back zero (a ∷ l) e h = absurd (omega arith)
 objects-back (suc n) [] e h = absurd (omega arith)
@@ -49,37 +47,42 @@ objects-back (suc n) (a ∷ b ∷ c ∷ []) e h = absurd (omega arith)
 objects-back (suc n) (a ∷ b ∷ c ∷ d ∷ []) e h = absurd (omega arith)
 objects-back (suc n) (a ∷ b ∷ c ∷ d ∷ f ∷ l) e h =
     let o : Object = record { kind = a; px = b; py = c; qx = d; qy = f } in
-    let z = or-zero (objectRefusal o) (objectsRefusal n l) h in
-    ap (λ (r : Reading Object). andThen r (λ rest. readObjects n rest)) (object-back o (writeObjects n l) (z .0))
-    ∙ ap (before o) (objects-back n l (omega arith) (z .1))
+    let behind : Each n l = λ i k. subst Accepted (sym (object-next (a ∷ b ∷ c ∷ d ∷ f ∷ l) i)) (h (suc i) (omega arith)) in
+    ap (λ (r : Reading Object). andThen r (λ rest. readObjects n rest)) (object-back o (writeObjects n l) (h 0 (omega arith) .accepted))
+    ∙ ap (before o) (objects-back n l (omega arith) behind)
 
 pub read-written : (l : List ℤ) → listRefusal l ≡ pos 0 → readDrawing (writeDrawing l) ≡ taken l
 unfolding readDrawing readCount writeDrawing
 read-written l h =
-    let f = list-fine l h in
-    let n = length l / width in
+    let f = listable l h in
+    let n = countOf l in
     simp (number-back n (writeObjects n l) (omega (arith, f .few)), le-ltb 512 n (f .few))
     (objects-back n l (sym (f .whole)) (f .each))
 
 -- ---- read, and then written
 
+each-next : (o : Object) (n : ℕ) (l : List ℤ) → objectRefusal o ≡ pos 0 → Each n l → Each (suc n) (objectNumbers o ++ l)
+unfolding objectRefusal
+each-next o n l p h zero k = record { accepted = p }
+each-next o n l p h (suc i) k = subst Accepted (object-next (objectNumbers o ++ l) i) (h i (omega arith))
+
 objects-from :
     (n : ℕ) (bs : List ℕ) → Bytes bs → readObjects n bs .refusal ≡ pos 0
-    → (writeObjects n (readObjects n bs .objects) ≡ bs) × (objectsRefusal n (readObjects n bs .objects) ≡ pos 0)
-unfolding objectsRefusal readObjects writeObjects objectRefusal
-objects-from zero [] h e = (refl, refl)
+    → (writeObjects n (readObjects n bs .objects) ≡ bs) × Each n (readObjects n bs .objects)
+unfolding readObjects writeObjects
+objects-from zero [] h e = (refl, λ i k. absurd (omega arith))
 objects-from zero (b ∷ bs) h e = absurd (eqZ-false {a = pos 9} {b = pos 0} refl e)
 objects-from (suc n) bs h e = go (object-from bs h) (sure-object bs) (objects-from n) e
   where
     go : {r : Reading Object} → From writeObject (λ o. objectRefusal o ≡ pos 0) bs r → Sure bs r
         → ((rest : List ℕ) → Bytes rest → readObjects n rest .refusal ≡ pos 0
-        → (writeObjects n (readObjects n rest .objects) ≡ rest) × (objectsRefusal n (readObjects n rest .objects) ≡ pos 0))
+        → (writeObjects n (readObjects n rest .objects) ≡ rest) × Each n (readObjects n rest .objects))
         → andThen r (λ rest. readObjects n rest) .refusal ≡ pos 0
         → (writeObjects (suc n) (andThen r (λ rest. readObjects n rest) .objects) ≡ bs)
-        × (objectsRefusal (suc n) (andThen r (λ rest. readObjects n rest) .objects) ≡ pos 0)
+        × Each (suc n) (andThen r (λ rest. readObjects n rest) .objects)
     go (from o rest p f) s behind e =
         let k = behind rest (behind-bytes (writeObject o) f h) e in
-        (ap (λ (l : List ℕ). writeObject o ++ l) (k .0) ∙ sym f, simp (eq-eqZ p) (k .1))
+        (ap (λ (l : List ℕ). writeObject o ++ l) (k .0) ∙ sym f, each-next o n (readObjects n rest .objects) p (k .1))
     go (not n) (sure.refused m z) behind e = absurd (eqZ-false z e)
 
 count-from : (bs : List ℕ) → Bytes bs → From writeNumber (λ n. n ≤ 512) bs (readCount bs)
@@ -100,7 +103,7 @@ pub record Again (bs : List ℕ) (d : Drawing) : Type 0 where
   pub accepted : listRefusal (d .objects) ≡ pos 0
 
 pub written-read : (bs : List ℕ) → Bytes bs → readDrawing bs .refusal ≡ pos 0 → Again bs (readDrawing bs)
-unfolding readDrawing writeDrawing listRefusal
+unfolding readDrawing writeDrawing
 written-read bs h e = go (count-from bs h) (sure-count bs) e
   where
     go : {r : Reading ℕ} → From writeNumber (λ n. n ≤ 512) bs r → Sure bs r → counted r .refusal ≡ pos 0 → Again bs (counted r)
@@ -108,11 +111,10 @@ written-read bs h e = go (count-from bs h) (sure-count bs) e
         let l = readObjects n rest .objects in
         let k = objects-from n rest (behind-bytes (writeNumber n) f h) e in
         let long = objects-length n rest e in
-        let count : length l / width ≡ n = omega arith in
-        let five : length l % width ≡ 0 = omega arith in
+        let count : countOf l ≡ n = omega arith in
         record {
           again = (λ i. writeNumber (count i) ++ writeObjects (count i) l) ∙ ap (λ (x : List ℕ). writeNumber n ++ x) (k .0) ∙ sym f;
-          accepted = simp (five, count, le-ltb 512 n p) (k .1);
+          accepted = is-listable l (record { whole = omega arith; few = omega arith; each = λ i b. k .1 i (omega arith) });
         }
     go (not n) (sure.refused m z) e = absurd (eqZ-false z e)
 

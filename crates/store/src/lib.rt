@@ -4,7 +4,7 @@ use reading::read_count;
 use reading::read_object;
 use reading::read_objects;
 use sheet::Object;
-use writing::list_refusal;
+use sheet::lists::list_refusal;
 use writing::number_size;
 use writing::objects_size;
 use writing::write_number;

@@ -5,11 +5,12 @@ ghost use mathlib.Core.Path.{_≡_};
 ghost use Prim.Native.Nat.{_<_, _≤_, _+_, _*_};
 ghost use Rattle.sheet.specs.Answers.{objectNumbers};
 ghost use Rattle.sheet.specs.Limits.{most};
-ghost use Rattle.store.specs.Stored.{width, numberLimit, pairOf, readNumber, unzigzag, readCoordinate, readPoint, readSide, readTo, readPair, readShape, readObject, readCount, readObjects};
+ghost use Rattle.sheet.specs.Lists.{width};
+ghost use Rattle.store.specs.Stored.{numberLimit, pairOf, readNumber, unzigzag, readCoordinate, readPoint, readSide, readTo, readPair, readShape, readObject, readCount, readObjects};
 ghost use Rattle.store.specs.Tells.{Tells, Placed, Filled};
 
 // The numbers of an object in a list.
-pub(crate) const WIDTH: usize = 5;
+pub(crate) const WIDTH: usize = Object::WIDTH;
 
 // A stored number and how many bytes it takes, or the number of the refusal.
 pub(crate) struct Number {

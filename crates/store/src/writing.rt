@@ -1,20 +1,20 @@
 // Writing: the bytes of a number, of a point and of an object, put at a place of a list, and how many they are.
-use crate::reading::WIDTH;
 use sheet::Object;
 ghost use mathlib.Core.Path.{_≡_};
 ghost use mathlib.Core.List.{_++_};
-ghost use Prim.Native.Nat.{_<_, _≤_, _+_, _*_};
-ghost use lib.IntN.{pos, natAbs};
+ghost use Prim.Native.Nat.{_<_, _≤_, _+_};
+ghost use lib.IntN.{natAbs};
 ghost use lib.ListN.{length};
 ghost use lib.Seq.{sets};
-ghost use Rattle.store.specs.Stored.{width, numberLimit, objectAt, writeNumber, zigzag, writePoint, writeShape, writeObject, writeObjects, objectsRefusal, listRefusal};
-ghost use Rattle.sheet.specs.Limits.{most};
+ghost use Rattle.sheet.specs.Lists.{width, countOf, objectFrom};
+ghost use Rattle.sheet.specs.ListsLaws.{Listable};
+ghost use Rattle.store.specs.Stored.{numberLimit, writeNumber, zigzag, writePoint, writeShape, writeObject, writeObjects};
 ghost use Rattle.store.specs.Bounded.{Small, Bounded, Wrote};
 
 // The object that stands at a place of a list.
 pub(crate) fn object_at(list: &[i64], at: usize) -> Object
     requires { ⌜ at + width ≤ length (now list) ⌝ }
-    ensures { λ r. ⌜ r ≡ objectAt (now (list .entry)) at ⌝ }
+    ensures { λ r. ⌜ r ≡ objectFrom (now (list .entry)) at ⌝ }
 {
     Object {
         kind: list[at],
@@ -23,30 +23,6 @@ pub(crate) fn object_at(list: &[i64], at: usize) -> Object
         qx: list[at + 3],
         qy: list[at + 4],
     }
-}
-
-// The refusal of a list of objects: 14, 11, each object in turn; 0 for none.
-pub(crate) fn list_refusal(list: &[i64]) -> i64
-    ensures { λ r. ⌜ r ≡ listRefusal (now (list .entry)) ⌝ }
-{
-    if list.len() % WIDTH != 0 {
-        return 14;
-    }
-    let count = list.len() / WIDTH;
-    if Object::MOST < count {
-        return 11;
-    }
-    let mut left = count;
-    let mut at = 0;
-    while 0 < left {
-        let no = sheet::object_refusal(object_at(list, at));
-        if no != 0 {
-            return no;
-        }
-        at += WIDTH;
-        left -= 1;
-    }
-    0
 }
 
 // How many bytes a stored number takes.
@@ -166,7 +142,7 @@ pub(crate) fn write_object(out: &mut [u8], at: usize, o: Object) -> usize
 
 // How many bytes the objects of an accepted list take.
 pub(crate) fn objects_size(count: usize, list: &[i64]) -> usize
-    requires { ⌜ (count ≤ most) × (count * width ≤ length (now list)) × (objectsRefusal count (now list) ≡ pos 0) ⌝ }
+    requires { ⌜ Listable (now list) × (count ≡ countOf (now list)) ⌝ }
     ensures { λ r. ⌜ r ≡ length (writeObjects count (now (list .entry))) ⌝ }
 {
     let mut left = count;
@@ -174,7 +150,7 @@ pub(crate) fn objects_size(count: usize, list: &[i64]) -> usize
     let mut size = 0;
     while 0 < left {
         size += object_size(object_at(list, at));
-        at += WIDTH;
+        at += Object::WIDTH;
         left -= 1;
     }
     size
@@ -182,7 +158,7 @@ pub(crate) fn objects_size(count: usize, list: &[i64]) -> usize
 
 // Puts the objects of an accepted list at a place, each behind the one before.
 pub(crate) fn write_objects(out: &mut [u8], from: usize, count: usize, list: &[i64])
-    requires { ⌜ (count * width ≤ length (now list)) × (objectsRefusal count (now list) ≡ pos 0) ⌝ }
+    requires { ⌜ Listable (now list) × (count ≡ countOf (now list)) ⌝ }
     requires { ⌜ from + length (writeObjects count (now list)) ≤ length (now out) ⌝ }
     ensures { λ _. ⌜ now (out .exit) ≡ sets (now (out .entry)) from (writeObjects count (now (list .entry))) ⌝ }
 {
@@ -192,7 +168,7 @@ pub(crate) fn write_objects(out: &mut [u8], from: usize, count: usize, list: &[i
     while 0 < left {
         let object = object_at(list, at);
         to = write_object(out, to, object);
-        at += WIDTH;
+        at += Object::WIDTH;
         left -= 1;
     }
 }

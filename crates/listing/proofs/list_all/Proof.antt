@@ -2,7 +2,7 @@ use mathlib.Core.Path.{_≡_, sym, _∙_}
 use lib.IntN.{pos}
 use Rattle.whole.specs.Bound.{fits64, w-pos}
 use Rattle.whole.specs.Tests.{fits-ok, eq-taken}
-use Rattle.listing.specs.ListsLaws.{Listable, listable}
+use Rattle.sheet.specs.ListsLaws.{Listable, listable}
 use Rattle.listing.specs.Rows.{rowsOf, sharing}
 use Rattle.listing.specs.RowsLaws.{length-rows}
 use Rattle.listing.specs.Listing.{allRefusal}
@@ -16,7 +16,7 @@ use Rattle.listing.proofs.list_all.Lts as lts
 use Rattle.listing.proofs.accept.Reads as accept-reads
 use Rattle.listing.proofs.all.lacking_room.Reads as lacking-room-reads
 use Rattle.listing.proofs.all.put_rows.Reads as put-rows-reads
-use Rattle.listing.proofs.objects.list_refusal.Reads as list-refusal-reads
+use Rattle.sheet.proofs.lists.list_refusal.Reads as list-refusal-reads
 use Rattle.listing.proofs.refuse.Reads as refuse-reads
 
 -- the first check, and what is known where it found nothing

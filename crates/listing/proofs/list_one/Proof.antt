@@ -7,8 +7,8 @@ use lib.ListN.{length}
 use Rattle.whole.specs.Bound.{fits64, w-pos}
 use Rattle.whole.specs.Tests.{fits-ok, eq-taken}
 use Rattle.sheet.specs.AnswersLaws.{or-zero}
-use Rattle.listing.specs.Lists.{countOf, listRefusal, indexRefusal}
-use Rattle.listing.specs.ListsLaws.{Listable, listable, index-below}
+use Rattle.sheet.specs.Lists.{countOf, listRefusal, indexRefusal}
+use Rattle.sheet.specs.ListsLaws.{Listable, listable, index-below}
 use Rattle.listing.specs.Rows.{rowsWith, sharingWith}
 use Rattle.listing.specs.RowsLaws.{length-rows-with}
 use Rattle.listing.specs.Listing.{oneRefusal}

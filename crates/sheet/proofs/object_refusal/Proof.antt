@@ -22,7 +22,7 @@ returns c =
             out-ok (o .qx) (told .1 .1 .1 .0 .1),
             out-ok (o .qy) (told .1 .1 .1 .1 .0 .1),
           ),
-      (refl, refl),
+      (refl, refl, refl),
     )
 
 pub object-refusal-spec : {M : Type 1} → statement M

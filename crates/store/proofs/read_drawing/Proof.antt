@@ -8,7 +8,8 @@ use lib.IntN.{pos}
 use lib.ListN.{length, drop}
 use Rattle.whole.specs.Bound.{fits64, w-pos}
 use Rattle.whole.specs.Tests.{fits-ok, eq-taken}
-use Rattle.store.specs.Stored.{width, Drawing, readObjects, readDrawing}
+use Rattle.sheet.specs.Lists.{width}
+use Rattle.store.specs.Stored.{Drawing, readObjects, readDrawing}
 use Rattle.store.specs.TellsLaws.{rest-is}
 use Rattle.store.specs.ObjectsLaws.{objects-length, drawing-refused, drawing-counted}
 use Rattle.store.specs.AnswersLaws.{read-refused, read-short, read-done}

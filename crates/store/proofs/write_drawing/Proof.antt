@@ -1,16 +1,18 @@
 -- `write_drawing` meets its contract: each way out is one of `write-refused`, `write-short` and `write-done`. Assumes nothing.
 use borrow.Author.Needs.{needs}
-use mathlib.Core.Path.{_≡_, sym, ap, _∙_}
-use Prim.Native.Nat.{_+_, _/_}
+use mathlib.Core.Path.{_≡_, refl, sym, ap, _∙_}
+use Prim.Native.Nat.{_+_}
 use native.Mathlib.Omega.{arith}
 use lib.IntN.{pos}
 use lib.ListN.{length, length-append}
 use lib.Seq.{length-sets}
 use Rattle.whole.specs.Bound.{fits64, w-pos}
 use Rattle.whole.specs.Tests.{fits-ok, eq-taken}
-use Rattle.store.specs.Stored.{width, writeNumber, writeObjects, writeDrawing, listRefusal}
+use Rattle.sheet.specs.Lists.{countOf, listRefusal}
+use Rattle.sheet.specs.ListsLaws.{Listable, listable}
+use Rattle.store.specs.Stored.{writeNumber, writeObjects, writeDrawing}
 use Rattle.store.specs.WriteLaws.{number-size}
-use Rattle.store.specs.ListLaws.{Fine, list-fine, objects-bytes, drawing-put}
+use Rattle.store.specs.ListLaws.{objects-bytes, drawing-put}
 use Rattle.store.specs.AnswersLaws.{write-refused, write-short, write-done}
 use Rattle.store.proofs.write_drawing.Statement.{statement}
 use Rattle.store.proofs.write_drawing.Tie as tie
@@ -37,8 +39,8 @@ taken c =
     let r = c .before .list-refusal in
     sym (r .ensures) ∙ eq-taken (fits-ok (r .result) (r .ok)) (fits64 (w-pos 0) tt) (c .if1 .left)
 
-fine : (c : tie.Else1) → Fine (c .before .before .before .args .list .now)
-fine c = list-fine (c .before .before .before .args .list .now) (taken c)
+fine : (c : tie.Else1) → Listable (c .before .before .before .args .list .now)
+fine c = listable (c .before .before .before .args .list .now) (taken c)
 
 long :
     (c : tie.After-objects-size) →
@@ -47,11 +49,11 @@ long :
 unfolding writeDrawing
 long c =
     let list = c .before .before .before .before .before .args .list .now in
-    let n = length list / width in
+    let n = countOf list in
     omega (arith, length-append (writeNumber n) (writeObjects n list), c .before .number-size .ensures, c .objects-size .ensures)
 
 objects-size-requires : tie.Need-objects-size-requires
-objects-size-requires c κs = let f = fine (c .before) in (f .few, omega (arith, f .whole), f .each)
+objects-size-requires c κs = (fine (c .before), refl)
 
 -- src/lib.rt:72:18
 add-length : tie.Need-add-length
@@ -62,9 +64,9 @@ add-length c =
       arith,
       c .before .number-size .ensures,
       c .objects-size .ensures,
-      number-size (length list / width),
+      number-size (countOf list),
       objects-bytes
-          (length list / width) list,
+          (countOf list) list,
       f .few,
     )
 
@@ -88,8 +90,8 @@ write-objects-requires c κs =
     let f = fine (c .before .before .before .before .before .before .before .before) in
     let w = c .before .before .before .write-number .ensures in
     let same : length (c .before .before .before .write-number .last .0) ≡ length (s .args .out .now) = ap length (w .is) ∙ length-sets
-    (s .args .out .now) 0 (writeNumber (length list / width)) in (
-      (omega (arith, f .whole), f .each),
+    (s .args .out .now) 0 (writeNumber (countOf list)) in (
+      (f, refl),
       omega (
         arith,
         same,

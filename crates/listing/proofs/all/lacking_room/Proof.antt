@@ -1,6 +1,6 @@
 use mathlib.Core.Path.{_∙_}
 use native.Mathlib.Omega.{arith}
-use Rattle.listing.specs.Lists.{countOf}
+use Rattle.sheet.specs.Lists.{countOf}
 use Rattle.listing.specs.Rows.{sharing}
 use Rattle.listing.specs.RowsLaws.{square-most, square-least, rows-most, length-rows}
 use Rattle.listing.specs.ListingLaws.{lacks-none, lacks}

@@ -5,7 +5,7 @@ use native.Mathlib.Omega.{arith}
 use lib.ListN.{length, length-append}
 use lib.Seq.{sets, length-sets}
 use borrow.Author.Needs.{needs}
-use Rattle.listing.specs.Lists.{countOf}
+use Rattle.sheet.specs.Lists.{countOf}
 use Rattle.listing.specs.Rows.{rowsWith}
 use Rattle.listing.specs.RowsLaws.{rowsFirst, first-rows-none, first-rows-more, first-rows-room}
 use Rattle.listing.proofs.Sets.{sets-more}

@@ -3,7 +3,7 @@ use mathlib.Core.Path.{_≡_, sym, ap, ap₂, _∙_}
 use native.Mathlib.Omega.{arith}
 use lib.ListN.{length, length-append}
 use borrow.Author.Needs.{needs}
-use Rattle.listing.specs.Lists.{countOf}
+use Rattle.sheet.specs.Lists.{countOf}
 use Rattle.listing.specs.Rows.{rowsWith}
 use Rattle.listing.specs.RowsLaws.{rowsFirst, first-rows-none, first-rows-more, first-rows-room, rows-most, square-most}
 use Rattle.listing.proofs.all.size_of_rows.Statement.{statement}

@@ -3,7 +3,7 @@ use Rattle.sheet.specs.Answers.{answer, meetingNumbers}
 use Rattle.sheet.specs.AnswersLaws.{accepted}
 use Rattle.sheet.specs.Crossing.{crossingOf, crossingRefusal}
 use Rattle.sheet.specs.CrossingLaws.{crossing-refusal}
-use Rattle.listing.specs.Lists.{objectAt}
+use Rattle.sheet.specs.Lists.{objectAt}
 use Rattle.listing.specs.RowsLaws.{met-by}
 use borrow.Author.Needs.{needs}
 use Rattle.listing.proofs.rows.meet.Statement.{statement}

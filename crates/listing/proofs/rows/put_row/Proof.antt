@@ -10,7 +10,7 @@ use Rattle.sheet.specs.Points.{numbers}
 use Rattle.sheet.specs.Refusal.{Accepted}
 use Rattle.sheet.specs.Crossing.{Meeting, point, many, crossingOf}
 use Rattle.kernel.proofs.Handed as handed
-use Rattle.listing.specs.Lists.{objectAt}
+use Rattle.sheet.specs.Lists.{objectAt}
 use Rattle.listing.specs.Rows.{rowWidth, meetingOf, rowBy}
 use Rattle.listing.specs.RowsLaws.{meetingBy}
 use borrow.Author.Needs.{needs}

@@ -4,7 +4,7 @@ use native.Mathlib.Omega.{arith}
 use lib.ListN.{length, length-append}
 use lib.Seq.{sets, length-sets}
 use borrow.Author.Needs.{needs}
-use Rattle.listing.specs.Lists.{countOf}
+use Rattle.sheet.specs.Lists.{countOf}
 use Rattle.listing.specs.Rows.{rowOf}
 use Rattle.listing.specs.RowsLaws.{rowsBefore, rows-none, rows-more, rows-room}
 use Rattle.listing.proofs.Sets.{sets-more}

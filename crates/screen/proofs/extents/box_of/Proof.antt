@@ -5,7 +5,8 @@ use Rattle.whole.specs.Bound.{fits64, w-pos}
 use Rattle.whole.specs.Tests.{fits-ok, eq-taken}
 use Rattle.screen.specs.Told.{Told}
 use Rattle.screen.specs.ToldLaws.{told-refused, told-accepted}
-use Rattle.screen.specs.Lists.{objectsOf, listRefusal}
+use Rattle.sheet.specs.Lists.{listRefusal}
+use Rattle.screen.specs.Lists.{objectsOf}
 use Rattle.screen.specs.Extents.{endsOf, extentOf, extentSays}
 use borrow.Author.Needs.{needs}
 use Rattle.screen.proofs.extents.box_of.Statement.{statement}

@@ -9,8 +9,9 @@ use Rattle.whole.specs.Bound.{Within, fits64, w-pos, w-is}
 use Rattle.whole.specs.Tests.{out, out-ok, fits-ok, eq-taken, eq-left}
 use Rattle.sheet.specs.Figure.{Vec}
 use Rattle.screen.specs.Quotient.{float}
-use Rattle.screen.specs.Lists.{width, objectsOf}
-use Rattle.screen.specs.ListsLaws.{list-accepted}
+use Rattle.sheet.specs.Lists.{width, countOf}
+use Rattle.sheet.specs.ListsLaws.{Listable, listable}
+use Rattle.screen.specs.Lists.{objectsOf}
 use Rattle.screen.specs.Extents.{endsOf, extreme, isNone, extentOf}
 use Rattle.screen.specs.ExtentsLaws.{AllSmall, ends-small, from-beyond, no-end, some-end, extreme-within}
 use borrow.Author.Needs.{needs}
@@ -20,11 +21,16 @@ use Rattle.screen.proofs.extents.extent.Tie as tie
 abbrev ends : tie.Start → List Vec
 ends s = endsOf (objectsOf (s .args .list .now))
 
+taken : (s : tie.Start) → Listable (s .args .list .now)
+taken s = listable (s .args .list .now) (s .pre)
+
 all-small : (s : tie.Start) → AllSmall (ends s)
-all-small s = ends-small (objectsOf (s .args .list .now)) (list-accepted (s .args .list .now) (s .pre) .1)
+all-small s =
+    let l = s .args .list .now in
+    ends-small l 0 (countOf l) (λ k h. taken s .each k (omega arith))
 
 fives : (s : tie.Start) → length (s .args .list .now) % width ≡ 0
-fives s = list-accepted (s .args .list .now) (s .pre) .0
+fives s = omega (arith, taken s .whole)
 
 -- there is a standard end
 some : (c : tie.Else1) → isNone (ends (c .before .before)) ≡ false

@@ -1,16 +1,17 @@
-use mathlib.Core.Path.{_≡_, refl, sym, _∙_, ap}
+use mathlib.Core.Path.{_≡_, sym, _∙_, ap}
 use mathlib.Core.List.{List}
 use Prim.Native.Nat.{_+_, _-_, _%_, _≤_, _<_}
 use native.Mathlib.Omega.{arith}
 use mir.Syntax.{w64}
 use mir.Val.{toZ}
 use lib.IntN.{ℤ, pos}
-use lib.ListN.{length, getD, drop}
+use lib.ListN.{length, getD}
 use borrow.Author.Needs.{needs}
-use Rattle.whole.specs.Tests.{out-ok, out-is}
+use Rattle.whole.specs.Tests.{out, out-ok, out-is}
 use Rattle.sheet.specs.declared.Object.{Object}
-use Rattle.screen.specs.Lists.{width, objectsOf}
-use Rattle.screen.specs.ListsLaws.{objectAt, objects-at, objects-end}
+use Rattle.sheet.specs.Lists.{width, objectFrom}
+use Rattle.screen.specs.Lists.{objectsOf}
+use Rattle.screen.specs.ListsLaws.{restFrom, rest-all, rest-at, rest-end}
 use Rattle.screen.specs.Extents.{endsOf, farthest}
 use Rattle.screen.specs.ExtentsLaws.{stepped, ends-step, first-part, second-part}
 use Rattle.screen.proofs.extents.reach.Statement.{statement}
@@ -20,13 +21,19 @@ abbrev Inv-loop : tie.InvT-loop
 Inv-loop list up axis start far₀ at₀ far at =
     (at ≤ length list)
     × ((at % width ≡ 0)
-    × (farthest up axis (toZ w64 start) (endsOf (objectsOf list)) ≡ farthest up axis (toZ w64 far) (endsOf (objectsOf (drop at list)))))
+    × (farthest up axis (toZ w64 start) (endsOf (objectsOf list)) ≡ farthest up axis (toZ w64 far) (endsOf (restFrom list at))))
 
 abbrev μ-loop : tie.MeasureT-loop
 μ-loop list up axis start far₀ at₀ far at = length list - at
 
 loop-holds : tie.Need-loop-holds Inv-loop μ-loop
-loop-holds c = (omega arith, (omega arith, refl))
+loop-holds c = (
+  omega arith,
+  (
+    omega arith,
+    ap (λ (os : List Object). farthest (c .args .up) (c .args .axis) (out (c .args .start)) (endsOf os)) (rest-all (c .args .list .now)),
+  ),
+)
 
 mul-kind : tie.Need-mul-kind Inv-loop μ-loop
 mul-kind c = search needs
@@ -87,9 +94,9 @@ loop-again c =
       (
         omega arith,
         at-loop .loop .inv .1 .1
-            ∙ ap (λ (os : List Object). farthest (s .args .up) axis was (endsOf os)) (objects-at l at (omega arith))
-            ∙ ends-step (s .args .up) axis was (objectAt l at) (objectsOf (drop (at + width) l))
-            ∙ sym (ap (λ (z : ℤ). farthest (s .args .up) axis z (endsOf (objectsOf (drop (at + width) l)))) far),
+            ∙ ap (λ (os : List Object). farthest (s .args .up) axis was (endsOf os)) (rest-at l at (at-loop .loop .inv .1 .0) (omega arith))
+            ∙ ends-step (s .args .up) axis was (objectFrom l at) (restFrom l (at + width))
+            ∙ sym (ap (λ (z : ℤ). farthest (s .args .up) axis z (endsOf (restFrom l (at + width)))) far),
       ),
     )
 
@@ -101,7 +108,7 @@ returns c =
     let h = c .before .loop in
     sym
     (h .inv .1 .1
-    ∙ ap (λ (os : List Object). farthest (s .args .up) (s .args .axis) (toZ w64 (h .far)) (endsOf os)) (objects-end l (h .at) (omega arith)))
+    ∙ ap (λ (os : List Object). farthest (s .args .up) (s .args .axis) (toZ w64 (h .far)) (endsOf os)) (rest-end l (h .at) (omega arith)))
     ∙ ap (λ (z : ℤ). farthest (s .args .up) (s .args .axis) z (endsOf (objectsOf l))) (out-is (s .fits .start))
 
 pub reach-spec : {M : Type 1} → statement M

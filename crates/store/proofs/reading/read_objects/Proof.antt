@@ -12,7 +12,8 @@ use Rattle.whole.specs.Bound.{fits64, w-pos}
 use Rattle.whole.specs.Tests.{out-ok, fits-ok, eq-taken, eq-left}
 use Rattle.sheet.specs.declared.Object.{Object}
 use Rattle.sheet.specs.Answers.{objectNumbers}
-use Rattle.store.specs.Stored.{width, Drawing, refused, readObject, readObjects}
+use Rattle.sheet.specs.Lists.{width}
+use Rattle.store.specs.Stored.{Drawing, readObject, readObjects}
 use Rattle.store.specs.Tells.{Tells}
 use Rattle.store.specs.TellsLaws.{tells-rest}
 use Rattle.store.specs.ObjectsLaws.{objects-step, objects-stop, objects-length, objects-end, objects-over, objects-past}

@@ -2,21 +2,22 @@
 use borrow.Author.Needs.{needs}
 use mathlib.Core.Path.{_≡_, sym, ap, _∙_}
 use mathlib.Core.List.{List}
-use Prim.Native.Nat.{ℕ, _+_, _*_, _-_}
+use Prim.Native.Nat.{ℕ, _+_, _*_, _-_, _%_, _<_}
 use native.Mathlib.Omega.{arith}
-use lib.IntN.{ℤ, pos}
+use lib.IntN.{ℤ}
 use lib.ListN.{length, drop, length-append}
 use Rattle.sheet.specs.declared.Object.{Object}
-use Rattle.store.specs.Stored.{width, objectAt, writeObject, writeObjects, objectsRefusal}
+use Rattle.sheet.specs.Lists.{width, objectFrom}
+use Rattle.sheet.specs.ListsLaws.{from-accepted}
+use Rattle.store.specs.Stored.{writeObject, writeObjects}
 use Rattle.store.specs.WriteLaws.{accepted-bounded}
-use Rattle.store.specs.ListLaws.{refusal-step, object-fine, objects-more, objects-bytes, objects-none}
+use Rattle.store.specs.ListLaws.{objects-more, objects-bytes, objects-none}
 use Rattle.store.proofs.writing.objects_size.Statement.{statement}
 use Rattle.store.proofs.writing.objects_size.Tie as tie
 
 -- left objects are still to be counted, from the place `at` of the list on
 record Stands (count : ℕ) (list : List ℤ) (left at size : ℕ) : Type 0 where
   place : at + left * width ≡ count * width
-  fine : objectsRefusal left (drop at list) ≡ pos 0
   is : size + length (writeObjects left (drop at list)) ≡ length (writeObjects count list)
 
 abbrev Inv-loop : tie.InvT-loop
@@ -26,17 +27,18 @@ abbrev μ-loop : tie.MeasureT-loop
 μ-loop count list left₀ at₀ size₀ left at size = left
 
 loop-holds : tie.Need-loop-holds Inv-loop μ-loop
-loop-holds c = record { place = omega arith; fine = c .pre .2; is = omega arith }
+loop-holds c = record { place = omega arith; is = omega arith }
 
 object-at-requires : tie.Need-object-at-requires Inv-loop μ-loop
-object-at-requires c κs = omega (arith, c .before .loop .inv .place, c .before .before .pre .1)
+object-at-requires c κs = omega (arith, c .before .loop .inv .place, c .before .before .pre .0 .whole, c .before .before .pre .1)
 
 object-size-requires : tie.Need-object-size-requires Inv-loop μ-loop
 object-size-requires c κs =
+    let s = c .before .before .before in
     let l = c .before .before .loop in
-    let list = c .before .before .before .args .list .now in
-    simp (c .object-at .ensures)
-    (accepted-bounded (objectAt list (l .at)) (object-fine (l .left) list (l .at) (omega arith) (l .inv .fine)))
+    let whole : l .at % width ≡ 0 = omega (arith, l .inv .place) in
+    let below : l .at < length (s .args .list .now) = omega (arith, l .inv .place, s .pre .0 .whole, s .pre .1) in
+    simp (c .object-at .ensures) (accepted-bounded _ (from-accepted (s .pre .0) (l .at) whole below .accepted))
 
 -- the object's bytes and those of the objects behind it
 one :
@@ -49,17 +51,17 @@ one c =
     let l = c .before .before .before .loop in
     let list = c .before .before .before .before .args .list .now in
     ap length (objects-more (l .left) list (l .at) (omega arith))
-    ∙ length-append (writeObject (objectAt list (l .at))) (writeObjects (l .left - 1) (drop (l .at + width) list))
+    ∙ length-append (writeObject (objectFrom list (l .at))) (writeObjects (l .left - 1) (drop (l .at + width) list))
     ∙ ap (λ (n : ℕ). n + length (writeObjects (l .left - 1) (drop (l .at + width) list)))
     (sym (c .object-size .ensures ∙ ap (λ (o : Object). length (writeObject o)) (c .before .object-at .ensures)))
 
 add-size : tie.Need-add-size Inv-loop μ-loop
 add-size c =
     let s = c .before .before .before .before in
-    omega (arith, c .before .before .before .loop .inv .is, one c, objects-bytes (s .args .count) (s .args .list .now), s .pre .0)
+    omega (arith, c .before .before .before .loop .inv .is, one c, objects-bytes (s .args .count) (s .args .list .now), s .pre .0 .few, s .pre .1)
 
 add-at : tie.Need-add-at Inv-loop μ-loop
-add-at c = omega (arith, c .before .before .before .loop .inv .place, c .before .before .before .before .pre .0)
+add-at c = omega (arith, c .before .before .before .loop .inv .place, c .before .before .before .before .pre .0 .few, c .before .before .before .before .pre .1)
 
 sub-left : tie.Need-sub-left Inv-loop μ-loop
 sub-left c = search needs
@@ -72,10 +74,8 @@ loop-again c =
     let s = c .before .before .before .before in
     let l = c .before .before .before .loop in
     let list = s .args .list .now in
-    let taken = object-fine (l .left) list (l .at) (omega arith) (l .inv .fine) in
     record {
       place = omega (arith, l .inv .place);
-      fine = sym (refusal-step (l .left) list (l .at) (omega arith) taken) ∙ l .inv .fine;
       is = omega (arith, l .inv .is, one c);
     }
 

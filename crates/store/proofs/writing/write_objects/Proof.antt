@@ -2,15 +2,17 @@
 use borrow.Author.Needs.{needs}
 use mathlib.Core.Path.{_≡_, refl, sym, ap, _∙_}
 use mathlib.Core.List.{List}
-use Prim.Native.Nat.{ℕ, _+_, _*_, _-_, _<_, _≤_}
+use Prim.Native.Nat.{ℕ, _+_, _*_, _-_, _%_, _<_, _≤_}
 use native.Mathlib.Omega.{arith}
-use lib.IntN.{ℤ, pos}
+use lib.IntN.{ℤ}
 use lib.ListN.{length, drop, length-append}
 use lib.Seq.{sets, length-sets}
-use Rattle.store.specs.Stored.{width, objectAt, writeObject, writeObjects, objectsRefusal}
+use Rattle.sheet.specs.Lists.{width, objectFrom}
+use Rattle.sheet.specs.ListsLaws.{from-accepted}
+use Rattle.store.specs.Stored.{writeObject, writeObjects}
 use Rattle.store.specs.Bounded.{Wrote}
 use Rattle.store.specs.WriteLaws.{wrote-as, accepted-bounded}
-use Rattle.store.specs.ListLaws.{refusal-step, object-fine, objects-more, objects-none}
+use Rattle.store.specs.ListLaws.{objects-more, objects-none}
 use Rattle.store.specs.FillLaws.{sets-two}
 use Rattle.store.proofs.writing.write_objects.Statement.{statement}
 use Rattle.store.proofs.writing.write_objects.Tie as tie
@@ -18,7 +20,6 @@ use Rattle.store.proofs.writing.write_objects.Tie as tie
 -- left objects are still to be written: from the place `at` of the list on, to the place `to` of the bytes
 record Stands (d : List ℕ) (from count : ℕ) (list : List ℤ) (out : List ℕ) (to left at : ℕ) : Type 0 where
   place : at + left * width ≡ count * width
-  fine : objectsRefusal left (drop at list) ≡ pos 0
   room : to + length (writeObjects left (drop at list)) ≤ length out
   same : length out ≡ length d
   is : sets out to (writeObjects left (drop at list)) ≡ sets d from (writeObjects count list)
@@ -27,16 +28,15 @@ record Stands (d : List ℕ) (from count : ℕ) (list : List ℤ) (out : List �
 step :
     {d : List ℕ} {from count : ℕ} (list : List ℤ) {out out′ : List ℕ} {to to′ : ℕ} (left at : ℕ)
     → 0 < left → Stands d from count list out to left at
-    → Wrote out out′ to to′ (writeObject (objectAt list at)) → Stands d from count list out′ to′ (left - 1) (at + width)
+    → Wrote out out′ to to′ (writeObject (objectFrom list at)) → Stands d from count list out′ to′ (left - 1) (at + width)
 step {d} {from} {count} list {out} {out′} {to} {to′} left at more s w =
-    let piece = writeObject (objectAt list at) in
+    let piece = writeObject (objectFrom list at) in
     let behind = writeObjects (left - 1) (drop (at + width) list) in
     let next = objects-more left list at more in
     let long = ap length next ∙ length-append piece behind in
     let same = ap length (w .is) ∙ length-sets out to piece in
     record {
       place = omega (arith, s .place);
-      fine = sym (refusal-step left list at more (object-fine left list at more (s .fine))) ∙ s .fine;
       room = omega (arith, s .room, w .place);
       same = same ∙ s .same;
       is =
@@ -54,11 +54,11 @@ abbrev μ-loop : tie.MeasureT-loop
 
 -- src/writing.rt:183:5
 loop-holds : tie.Need-loop-holds Inv-loop μ-loop
-loop-holds c = record { place = omega arith; fine = c .before .pre .0 .1; room = c .before .pre .1; same = refl; is = refl }
+loop-holds c = record { place = omega arith; room = c .before .pre .1; same = refl; is = refl }
 
 -- src/writing.rt:184:13
 object-at-requires : tie.Need-object-at-requires Inv-loop μ-loop
-object-at-requires c κs = omega (arith, c .before .loop .inv .place, c .before .before .before .pre .0 .0)
+object-at-requires c κs = omega (arith, c .before .loop .inv .place, c .before .before .before .pre .0 .0 .whole, c .before .before .before .pre .0 .1)
 
 -- src/writing.rt:185:9
 write-object-requires : tie.Need-write-object-requires Inv-loop μ-loop
@@ -66,18 +66,21 @@ write-object-requires c κs =
     let s = c .before .before .before .before .before in
     let l = c .before .before .before .loop in
     let list = s .args .list .now in
-    let o = objectAt list (l .at) in
+    let o = objectFrom list (l .at) in
     let behind = writeObjects (l .left - 1) (drop (l .at + width) list) in
     let long = ap length (objects-more (l .left) list (l .at) (omega arith)) ∙ length-append (writeObject o) behind in
+    let whole : l .at % width ≡ 0 = omega (arith, l .inv .place) in
+    let below : l .at < length list = omega (arith, l .inv .place, s .pre .0 .0 .whole, s .pre .0 .1) in
     simp (c .before .object-at .ensures)
-    (accepted-bounded o (object-fine (l .left) list (l .at) (omega arith) (l .inv .fine)), omega (arith, l .inv .room))
+    (accepted-bounded o (from-accepted (s .pre .0 .0) (l .at) whole below .accepted), omega (arith, l .inv .room))
 
 -- src/writing.rt:186:9
 add-at : tie.Need-add-at Inv-loop μ-loop
 add-at c = omega (
   arith,
   c .before .before .before .before .before .before .loop .inv .place,
-  c .before .before .before .before .before .before .before .before .pre .0 .0,
+  c .before .before .before .before .before .before .before .before .pre .0 .0 .few,
+  c .before .before .before .before .before .before .before .before .pre .0 .1,
 )
 
 -- src/writing.rt:187:9

@@ -5,16 +5,11 @@ use native.Mathlib.Omega.{arith}
 use borrow.Author.Needs.{needs}
 use Rattle.whole.specs.Bound.{fits64, w-pos}
 use Rattle.whole.specs.Tests.{fits-ok, out-is, eq-taken, eq-left}
 use Rattle.sheet.specs.Refusal.{objectRefusal}
-use Rattle.listing.specs.InTurn.{inTurn}
-use Rattle.listing.specs.Lists.{objectsRefusal}
-use Rattle.listing.specs.ListsLaws.{one-accepted, one-refused}
-use Rattle.listing.proofs.objects.objects_refusal.Statement.{statement}
-use Rattle.listing.proofs.objects.objects_refusal.Tie as tie
-use Rattle.listing.proofs.objects.objects_refusal.Reads as reads
-use Rattle.listing.proofs.objects.objects_refusal.Lts as lts
-use Rattle.listing.proofs.objects.object_at.Reads as object-at-reads
-use Rattle.sheet.proofs.object_refusal.Reads as object-refusal-reads
+use Rattle.sheet.specs.Lists.{firstRefusal, objectsRefusal}
+use Rattle.sheet.specs.ListsLaws.{one-accepted, one-refused}
+use Rattle.sheet.proofs.lists.objects_refusal.Statement.{statement}
+use Rattle.sheet.proofs.lists.objects_refusal.Tie as tie
 
 abbrev Inv-loop : tie.InvT-loop
 Inv-loop list n i₀ i = (i ≤ n) × (objectsRefusal list i ≡ pos 0)
@@ -23,7 +18,7 @@ abbrev μ-loop : tie.MeasureT-loop
 μ-loop list n i₀ i = n - i
 
 loop-holds : tie.Need-loop-holds Inv-loop μ-loop
-unfolding inTurn
+unfolding firstRefusal
 loop-holds c = (search needs, refl)
 
 object-at-requires : tie.Need-object-at-requires Inv-loop μ-loop
@@ -39,7 +34,7 @@ returns c =
     let r = c .before .object-refusal in
     let is = r .ensures .0 ∙ ap objectRefusal (c .before .before .object-at .ensures) in
     out-is (fits-ok (r .result) (r .ok)) ∙ is
-    ∙ one-refused l (at .loop .i) (at .before .args .n) (omega arith) (at .loop .inv .1) (λ z. eq-left {x = r .result} {y = pos 0} (c .if1 .taken) (is ∙ z))
+    ∙ one-refused l (at .loop .i) (at .loop .inv .1) (at .before .args .n) (omega arith) (λ z. eq-left {x = r .result} {y = pos 0} (c .if1 .taken) (is ∙ z))
 
 add-i : tie.Need-add-i Inv-loop μ-loop
 add-i c = search needs

@@ -1,13 +1,10 @@
 use mathlib.Core.Path.{_∙_}
 use borrow.Author.Tests.{eq-eqb, ne-eqb, lt-ltb, le-ltb}
 use Rattle.whole.specs.Tests.{fits-ok, out-is}
-use Rattle.listing.specs.Lists.{listRefusal}
+use Rattle.sheet.specs.Lists.{listRefusal}
 use borrow.Author.Needs.{needs}
-use Rattle.listing.proofs.objects.list_refusal.Statement.{statement}
-use Rattle.listing.proofs.objects.list_refusal.Tie as tie
-use Rattle.listing.proofs.objects.list_refusal.Reads as reads
-use Rattle.listing.proofs.objects.list_refusal.Lts as lts
-use Rattle.listing.proofs.objects.objects_refusal.Reads as objects-refusal-reads
+use Rattle.sheet.proofs.lists.list_refusal.Statement.{statement}
+use Rattle.sheet.proofs.lists.list_refusal.Tie as tie
 
 returns : tie.Need-returns
 unfolding listRefusal
