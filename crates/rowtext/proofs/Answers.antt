@@ -34,4 +34,4 @@ pub put-refused-answer :
     (κs : Lfts 1) (n : ℤ) (out d e : RefT (List ℕ)) (r s : Put)
     → put-refused.Post κs (n, (out, tt)) r (n, (d, tt)) → put-refused.Post κs (n, (out, tt)) s (n, (e, tt))
     → (r ≡ s) × (d .now ≡ e .now)
-put-refused-answer κs n out d e r s p q = (p .0 ∙ sym (q .0), p .1 ∙ sym (q .1))
+put-refused-answer κs n out d e r s p q = (p .0 ∙ sym (q .0), p .1 .0 ∙ sym (q .1 .0))

@@ -34,9 +34,9 @@ rowsAnswer l d = cond (eqb (length l % width) 0) (putAnswer (rowsText l) d) (rec
 unfoldable pub rowsInto : List ℤ → List ℕ → List ℕ
 rowsInto l d = cond (eqb (length l % width) 0) (putInto (rowsText l) d) d
 
--- ---- how long the text of a row can be
+-- ---- how long rows and lines can be
 
--- an i64, its minus included
+-- an i64 with its minus, and a u64
 abbrev pub numberMost : ℕ
 numberMost = 20
 
@@ -47,6 +47,10 @@ fieldMost = numberMost + 1
 -- i and j, the blank and the word `point`, five numbers, the newline: 153 bytes, and no row is longer (`row-short`)
 abbrev pub rowMost : ℕ
 rowMost = numberMost + fieldMost + 6 + 5 * fieldMost + 1
+
+-- a word of seven letters, a number behind a blank, the newline (`line-short`)
+abbrev pub lineMost : ℕ
+lineMost = 7 + fieldMost + 1
 
 -- ---- the inner steps: `text` stands at `at` as far as there are bytes, every other byte is as it was, and `next` is the place after it
 

@@ -2,22 +2,21 @@
 --   put-short    too few bytes: 10 and the length needed, and every byte as it was
 --   put-done     enough, and the text was written from place 0 on: 0 and the place after it
 --   no-rows, rows-say   what a list that is no list of rows answers, and one that is
---   line-said, rows-said   the length needed is answered as it is: of a line, and of a list of fewer than 2^59 rows' numbers
+--   line-short, count-short   how long a line can be, and a count in it (a refusal's number: signed-short)
+--   line-said, rows-said   the length needed is answered as it is: of a line, and of a list of fewer than 2^59 numbers
 -- Assumes nothing.
-use mathlib.Core.Path.{_≡_, refl, sym, _∙_, ap}
-use mathlib.Core.Bool.{Bool, true, false}
-use mathlib.Core.List.{List, [], _∷_, _++_}
+use mathlib.Core.Path.{_≡_, _∙_, ap}
+use mathlib.Core.List.{List}
 use Prim.Native.Nat.{ℕ, _%_, _^_, _≤_, _<_}
 use native.Mathlib.Nat.{zero-add}
 use native.Mathlib.Omega.{arith}
-use lib.IntN.{ℤ, pos, natAbs}
+use lib.IntN.{ℤ, pos}
 use lib.ListN.{length, length-append}
-use lib.Signed.{ltZ}
 use borrow.Author.Tests.{lt-ltb, le-ltb, eq-eqb, ne-eqb}
 use Rattle.rowtext.specs.declared.Put.{Put}
-use Rattle.rowtext.specs.Text.{newline, blank, digits, sized, width, rowsOf, rowsText, countLine}
-use Rattle.rowtext.specs.TextLaws.{Fit, digits-short, rows-short}
-use Rattle.rowtext.specs.Put.{largest, said, putAnswer, putInto, Wrote, rowsAnswer, rowsInto}
+use Rattle.rowtext.specs.Text.{signed, width, rowsOf, rowsText, countLine}
+use Rattle.rowtext.specs.TextLaws.{Fit, signed-pos, digits-short, rows-short}
+use Rattle.rowtext.specs.Put.{said, numberMost, lineMost, putAnswer, putInto, Wrote, rowsAnswer, rowsInto}
 use Rattle.rowtext.specs.WroteLaws.{said-is, said-no-more, Saying, whole, cut, saying, wrote-front}
 
 -- an answer, and what is in the bytes then
@@ -61,15 +60,16 @@ module _ (l : List ℤ) (d : List ℕ) where
 
 -- ---- the length needed is answered as it is
 
-pub line-said : (word : List ℕ) (z : ℤ) → length word ≤ 1000 → natAbs z < 2 ^ 64 → said (length (countLine word z)) ≡ length (countLine word z)
-line-said word z h m = said-is (go (ltZ z (pos 0)))
-  where
-    few : length (digits (natAbs z)) ≤ 20
-    few = digits-short (natAbs z) m
+-- `objects`, `rows` and `refused` have at most seven letters
+pub line-short : (word : List ℕ) (z : ℤ) → length word ≤ 7 → length (signed z) ≤ numberMost → length (countLine word z) ≤ lineMost
+line-short word z h m = simp length-append (omega arith)
 
-    go : (t : Bool) → length (word ++ (blank ∷ []) ++ sized t (natAbs z) ++ (newline ∷ [])) ≤ largest
-    go true = let f = few in simp length-append (omega arith)
-    go false = let f = few in simp length-append (omega arith)
+pub count-short : (n : ℕ) → n < 2 ^ 64 → length (signed (pos n)) ≤ numberMost
+count-short n h = simp (signed-pos n) (digits-short n h)
+
+pub line-said : (word : List ℕ) (z : ℤ) → length word ≤ 7 → length (signed z) ≤ numberMost
+    → said (length (countLine word z)) ≡ length (countLine word z)
+line-said word z h m = said-is (omega (arith, line-short word z h m))
 
 -- a list of 2^59 numbers is 2^62 bytes long
 pub rows-said : (l : List ℤ) → Fit l → length l < 2 ^ 59 → said (length (rowsText l)) ≡ length (rowsText l)

@@ -9,7 +9,7 @@ ghost use Prim.Native.Nat.{_+_, _*_, _≤_};
 ghost use lib.IntN.{pos};
 ghost use lib.ListN.{length, take, drop};
 ghost use Rattle.rowtext.specs.Text.{newline, objectsWord, rowsWord, refusedWord, digits, sized, signed, field, numbers, sharedText, rowText, rowsTo, width, countLine};
-ghost use Rattle.rowtext.specs.Put.{said, rowMost, Wrote, putAnswer, putInto, rowsAnswer, rowsInto};
+ghost use Rattle.rowtext.specs.Put.{said, rowMost, lineMost, Wrote, putAnswer, putInto, rowsAnswer, rowsInto};
 
 // 0 and the length of the text, or the number of the refusal. With 10 comes the length needed.
 pub struct Put {
@@ -21,6 +21,8 @@ pub struct Put {
 const WIDTH: usize = 8;
 // The most bytes that the text of a row takes, whatever its numbers are.
 pub const ROW_MOST: usize = 153;
+// The most bytes that a line of a word and a number takes.
+pub const LINE_MOST: usize = 29;
 // The largest length that a call can answer.
 const LARGEST: usize = usize::MAX;
 
@@ -224,6 +226,7 @@ pub fn put_count(n: u64, out: &mut [u8]) -> Put
 pub fn put_refused(n: i64, out: &mut [u8]) -> Put
     ensures answer { λ r. ⌜ r ≡ putAnswer (countLine refusedWord n) (now (out .entry)) ⌝ }
     ensures bytes { λ r. ⌜ now (out .exit) ≡ putInto (countLine refusedWord n) (now (out .entry)) ⌝ }
+    ensures longest { λ r. do ⌜ (← ⟦LINE_MOST⟧ .entry) ≡ lineMost ⌝ }
 {
     put_line(b"refused ", n < 0, size(n), out)
 }

@@ -1,5 +1,5 @@
 -- `put_refused` meets its contract: the sign and the size of a number are its text.
-use mathlib.Core.Path.{ap, _∙_}
+use mathlib.Core.Path.{refl, ap, _∙_}
 use mathlib.Core.List.{List, [], _∷_, _++_}
 use Prim.Native.Nat.{ℕ}
 use Rattle.rowtext.specs.Text.{blank, newline, refusedWord}
@@ -28,7 +28,7 @@ returns c =
     let number = signed-out (s .fits .n) (c .before .before .before .before .size .ensures) in
     let line = c .before .before .put-line .ensures in (
       line .0 ∙ ap (λ (t : List ℕ). putAnswer (refusedWord ++ (blank ∷ []) ++ t ++ (newline ∷ [])) d) number,
-      line .1 ∙ ap (λ (t : List ℕ). putInto (refusedWord ++ (blank ∷ []) ++ t ++ (newline ∷ [])) d) number,
+      (line .1 ∙ ap (λ (t : List ℕ). putInto (refusedWord ++ (blank ∷ []) ++ t ++ (newline ∷ [])) d) number, refl),
     )
 
 pub put-refused-spec : {M : Type 1} → statement M
