@@ -16,7 +16,7 @@ pub put-rows-answer :
     (κs : Lfts 2) (rows : RefT (List ℤ)) (out d e : RefT (List ℕ)) (r s : Put)
     → put-rows.Post κs (rows, (out, tt)) r (rows, (d, tt)) → put-rows.Post κs (rows, (out, tt)) s (rows, (e, tt))
     → (r ≡ s) × (d .now ≡ e .now)
-put-rows-answer κs rows out d e r s p q = (p .0 ∙ sym (q .0), p .1 ∙ sym (q .1))
+put-rows-answer κs rows out d e r s p q = (p .0 ∙ sym (q .0), p .1 .0 ∙ sym (q .1 .0))
 
 pub put-objects-answer :
     (κs : Lfts 1) (n : ℕ) (out d e : RefT (List ℕ)) (r s : Put)
@@ -34,4 +34,4 @@ pub put-refused-answer :
     (κs : Lfts 1) (n : ℤ) (out d e : RefT (List ℕ)) (r s : Put)
     → put-refused.Post κs (n, (out, tt)) r (n, (d, tt)) → put-refused.Post κs (n, (out, tt)) s (n, (e, tt))
     → (r ≡ s) × (d .now ≡ e .now)
-put-refused-answer κs n out d e r s p q = (p .0 ∙ sym (q .0), p .1 ∙ sym (q .1))
+put-refused-answer κs n out d e r s p q = (p .0 ∙ sym (q .0), p .1 .0 ∙ sym (q .1 .0))

@@ -26,7 +26,7 @@ use mir.Val.{SFits}
 use Rattle.whole.specs.Bound.{fits64, w-pos}
 use Rattle.whole.specs.Tests.{out, out-is, eqZ, ne-eqZ}
 use Rattle.rowtext.specs.Text.{newline, blank, zeroDigit, pointWord, manyWord, digitsTo, digits, sized, signed, field, numbers, width, sharedText, rowAt, rowText, rowsTo}
-use Rattle.rowtext.specs.Put.{numberMost, fieldMost, sharedMost, rowMost}
+use Rattle.rowtext.specs.Put.{numberMost, fieldMost, rowMost}
 
 -- ---- digits
 
@@ -189,11 +189,11 @@ numbers-short (suc n) {l = z ∷ l} f =
     let rest = numbers-short n {l = l} (fit-drop 1 f) in
     simp length-append (omega arith)
 
-shared-short : {r : List ℤ} → Fit r → length (sharedText r) ≤ sharedMost
+shared-short : {r : List ℤ} → Fit r → length (sharedText r) ≤ 6 + 5 * fieldMost
 shared-short {r} f = go (eqZ (getD r 2 (pos 0)) (pos 1)) (numbers-short 5 (fit-drop 3 f))
   where
     go : (t : Bool) → length (numbers (take 5 (drop 3 r))) ≤ 5 * fieldMost
-        → length (cond t (blank ∷ pointWord ++ numbers (take 5 (drop 3 r))) (blank ∷ manyWord)) ≤ sharedMost
+        → length (cond t (blank ∷ pointWord ++ numbers (take 5 (drop 3 r))) (blank ∷ manyWord)) ≤ 6 + 5 * fieldMost
     go true h = omega arith
     go false h = omega arith
 

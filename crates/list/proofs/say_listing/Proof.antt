@@ -1,14 +1,17 @@
+-- `say_listing` is safe and ends. The invariant: each object so far had at most `most` rows.
 use borrow.Author.Needs.{needs}
+use mathlib.Core.Path.{refl}
 use Prim.Native.Nat.{_≤_, _*_, _-_}
 use native.Mathlib.Omega.{arith}
+use Rattle.sheet.specs.Limits.{most}
 use Rattle.list.proofs.say_listing.Statement.{statement}
 use Rattle.list.proofs.say_listing.Tie as tie
 
 abbrev Inv-loop : tie.InvT-loop
-Inv-loop list count most total₀ i₀ total i = (i ≤ most) × (total ≤ 512 * i)
+Inv-loop list count objects total₀ i₀ total i = (i ≤ objects) × (total ≤ most * i)
 
 abbrev μ-loop : tie.MeasureT-loop
-μ-loop list count most total₀ i₀ total i = most - i
+μ-loop list count objects total₀ i₀ total i = objects - i
 
 say-objects-requires : tie.Need-say-objects-requires Inv-loop μ-loop
 say-objects-requires c κs = search needs
@@ -38,7 +41,7 @@ say-count-requires : tie.Need-say-count-requires Inv-loop μ-loop
 say-count-requires c κs = search needs
 
 returns : tie.Need-returns Inv-loop μ-loop
-returns c = search needs
+returns c = (refl, (refl, refl))
 
 pub say-listing-spec : {M : Type 1} → statement M
 say-listing-spec =

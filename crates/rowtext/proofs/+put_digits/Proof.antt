@@ -1,13 +1,10 @@
 -- `put_digits` meets its contract: the digits before the last one are those of a tenth of the number. The measure is the number.
-use mathlib.Core.Path.{refl, sym, _∙_, ap, subst}
-use mathlib.Core.List.{[], _∷_}
+use mathlib.Core.Path.{sym, _∙_, subst}
 use native.Mathlib.Nat.{mod-lt, div-lt-self}
 use native.Mathlib.Omega.{arith}
-use lib.ListN.{length, length-append}
-use Rattle.rowtext.specs.Text.{zeroDigit, digits}
 use Rattle.rowtext.specs.TextLaws.{digits-one, digits-more}
-use Rattle.rowtext.specs.WroteLaws.{wrote-more, wrote-length, wrote-as}
-use Prim.Native.Nat.{ℕ, _+_, _/_, _%_, _<_}
+use Rattle.rowtext.specs.WroteLaws.{wrote-more, wrote-as}
+use Prim.Native.Nat.{ℕ, _/_, _<_}
 use borrow.Fn.Kinds.{In}
 use borrow.Fn.PlainCycle.{Measures, is, falls, and}
 use Rattle.rowtext.proofs.put_digits.Reads as put-digits
@@ -50,9 +47,7 @@ put-digits-put-byte-requires : (t : ℕ) → put-digits-lts.Need-put-byte-requir
   put-digits-below t,
   put-digits.Post,
 ) (put-digits-at t) put-digits.Post
-put-digits-put-byte-requires t c κs =
-    let n = c .before .before .before .args .n in
-    omega (arith, ap length (digits-one n (c .before .if1 .taken)), c .before .before .before .pre .1)
+put-digits-put-byte-requires t c κs = tt
 
 put-digits-same-length : (t : ℕ) → put-digits-lts.Need-same-length (
   put-byte-reads.Asked,
@@ -70,7 +65,7 @@ put-digits-returns : (t : ℕ) → put-digits-lts.Need-returns (
 ) (put-digits-at t) put-digits.Post
 put-digits-returns t c =
     let n = c .before .before .before .before .before .before .args .n in
-    wrote-as (c .before .before .put-byte .ensures) refl (sym (digits-one n (c .before .before .before .before .if1 .taken)))
+    wrote-as (c .before .before .put-byte .ensures) (sym (digits-one n (c .before .before .before .before .if1 .taken)))
 
 put-digits-put-digits-requires : (t : ℕ) → put-digits-lts.Need-put-digits-requires (
   put-byte-reads.Asked,
@@ -80,10 +75,7 @@ put-digits-put-digits-requires : (t : ℕ) → put-digits-lts.Need-put-digits-re
 ) (put-digits-at t) put-digits.Post
 put-digits-put-digits-requires t c κs =
     let s = c .before .before .before in
-    let n = s .args .n in (
-      subst (λ (m : ℕ). n / 10 < m) (s .pre .0) (div-lt-self (omega arith) (omega arith)),
-      omega (arith, ap length (digits-more n (c .before .if1 .left)), length-append (digits (n / 10)) ((zeroDigit + n % 10) ∷ []), s .pre .1),
-    )
+    (subst (λ (m : ℕ). s .args .n / 10 < m) (s .pre .0) (div-lt-self (omega arith) (omega arith)), tt)
 
 put-digits-put-byte-requires-2 : (t : ℕ) → put-digits-lts.Need-put-byte-requires-2 (
   put-byte-reads.Asked,
@@ -91,18 +83,7 @@ put-digits-put-byte-requires-2 : (t : ℕ) → put-digits-lts.Need-put-byte-requ
   put-digits-below t,
   put-digits.Post,
 ) (put-digits-at t) put-digits.Post
-put-digits-put-byte-requires-2 t c κs =
-    let s = c .before .before .before .before .before .before .before in
-    let n = s .args .n in
-    let w = c .before .before .before .put-digits .ensures in
-    omega (
-      arith,
-      ap length (digits-more n (c .before .before .before .before .before .if1 .left)),
-      length-append (digits (n / 10)) ((zeroDigit + n % 10) ∷ []),
-      s .pre .1,
-      w .place,
-      wrote-length w,
-    )
+put-digits-put-byte-requires-2 t c κs = tt
 
 put-digits-same-length-2 : (t : ℕ) → put-digits-lts.Need-same-length-2 (
   put-byte-reads.Asked,
@@ -120,7 +101,7 @@ put-digits-returns-2 : (t : ℕ) → put-digits-lts.Need-returns-2 (
 ) (put-digits-at t) put-digits.Post
 put-digits-returns-2 t c =
     let n = c .before .before .before .before .before .before .before .before .before .before .args .n in
-    wrote-as (wrote-more (c .before .before .before .before .before .before .put-digits .ensures) (c .before .before .put-byte2 .ensures)) refl
+    wrote-as (wrote-more (c .before .before .before .before .before .before .put-digits .ensures) (c .before .before .put-byte2 .ensures))
     (sym (digits-more n (c .before .before .before .before .before .before .before .before .if1 .left)))
 
 pub +put-digits-spec : {M : Type 1} → statement M

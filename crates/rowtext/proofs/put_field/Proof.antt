@@ -1,6 +1,5 @@
 -- `put_field` meets its contract: a blank and then the number.
-use mathlib.Core.Path.{refl, ap}
-use native.Mathlib.Omega.{arith}
+use mathlib.Core.Path.{ap}
 use Rattle.whole.specs.Tests.{out-is}
 use Rattle.rowtext.specs.Text.{signed}
 use Rattle.rowtext.specs.WroteLaws.{wrote-more, wrote-as}
@@ -22,7 +21,7 @@ returns c =
     let s = c .before .before .before .before .before .before .before .before .before in
     let byte = c .before .before .before .before .before .before .put-byte .ensures in
     let number = c .before .before .put-number .ensures in
-    (wrote-more byte (wrote-as (number .0) refl (ap signed (out-is (s .fits .n)))), omega (arith, byte .place, number .1))
+    wrote-more byte (wrote-as number (ap signed (out-is (s .fits .n))))
 
 pub put-field-spec : {M : Type 1} → statement M
 put-field-spec = tie.close (tie.spec put-byte-requires put-number-requires same-length returns)

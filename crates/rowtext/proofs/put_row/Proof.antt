@@ -1,6 +1,5 @@
 -- `put_row` meets its contract: its four parts stand one after another.
-use mathlib.Core.Path.{refl, sym, ap}
-use native.Mathlib.Omega.{arith}
+use mathlib.Core.Path.{sym, ap}
 use lib.IntN.{pos}
 use lib.ListN.{getD}
 use Rattle.whole.specs.Tests.{out-ok}
@@ -48,8 +47,7 @@ returns c =
     let j = second .put-numbers .ensures in
     let shared = third .put-shared .ensures in
     let end = c .before .before .put-byte .ensures in
-    let written = wrote-more (wrote-more (wrote-more (wrote-as (i .0) refl number) (j .0)) (shared .0)) end in
-    (wrote-as written refl (sym (row-from l from)), omega (arith, i .1, j .1, shared .1, end .place))
+    wrote-as (wrote-more (wrote-more (wrote-more (wrote-as i number) j) shared) end) (sym (row-from l from))
 
 pub put-row-spec : {M : Type 1} → statement M
 put-row-spec =

@@ -1,33 +1,35 @@
--- `put_rows` meets its contract: each of its three ways out is one law of PutLaws.
+-- `put_rows` meets its contract: what was put into no bytes tells the length, and each of its three ways out is one law of PutLaws.
+use mathlib.Core.Path.{refl}
 use native.Mathlib.Nat.{div-mul-le-self}
-use native.Mathlib.Omega.{arith}
 use lib.ListN.{length}
-use Rattle.rowtext.specs.Text.{width, rowsOf, rowsText}
-use Rattle.rowtext.specs.PutLaws.{put-short, put-done, room-enough, no-rows, rows-say}
+use Rattle.rowtext.specs.Text.{width, rowsText}
+use Rattle.rowtext.specs.PutLaws.{put-short, put-done, no-rows, rows-say}
 use borrow.Author.Needs.{needs}
 use Rattle.rowtext.proofs.put_rows.Statement.{statement}
 use Rattle.rowtext.proofs.put_rows.Tie as tie
 
 returns : tie.Need-returns
-returns c = no-rows (c .before .before .args .rows .now) (c .before .before .args .out .now) (c .if1 .taken)
+returns c =
+    let says = no-rows (c .before .before .args .rows .now) (c .before .before .args .out .now) (c .if1 .taken) in
+    (says .0, (says .1, refl))
 
-room-for-requires : tie.Need-room-for-requires
-room-for-requires c κs = search needs
-
-returns-2 : tie.Need-returns-2
-returns-2 c =
-    let s = c .before .before .before .before in
-    let l = s .args .rows .now in
-    rows-say l (s .args .out .now) (c .before .before .if1 .left) (put-short (rowsText l) (c .before .room-for .ensures) (c .if2 .taken))
+slice-aggregate-put-all : tie.Need-slice-aggregate-put-all
+slice-aggregate-put-all c = search needs
 
 put-all-requires : tie.Need-put-all-requires
-put-all-requires c κs =
-    let s = c .before .before .before .before .before in
+put-all-requires c κs = search needs
+
+returns-2 : tie.Need-returns-2
+unfolding rowsText
+returns-2 c =
+    let s = c .before .before .before .before .before .before in
     let d = s .args .out .now in
-    let count = rowsOf (s .args .rows .now) in (
-      div-mul-le-self (length (s .args .rows .now)) width,
-      room-enough count (length d) (omega (arith, s .good .1 .0 .1)) (omega (arith, c .before .before .room-for .ensures, c .before .if2 .left)),
-    )
+    let says =
+    rows-say (s .args .rows .now) d (c .before .before .before .before .if1 .left) (put-short (c .before .before .put-all .ensures) d (c .if2 .taken)) in
+    (says .0, (says .1, refl))
+
+put-all-requires-2 : tie.Need-put-all-requires-2
+put-all-requires-2 c κs = search needs
 
 same-length : tie.Need-same-length
 same-length c = search needs
@@ -36,11 +38,19 @@ returns-3 : tie.Need-returns-3
 unfolding rowsText
 returns-3 c =
     let test = c .before .before .before .before in
-    let s = test .before .before .before .before in
-    let l = s .args .rows .now in
-    rows-say l (s .args .out .now) (test .before .before .if1 .left)
-    (put-done (test .before .room-for .ensures) (test .if2 .left) (c .before .before .put-all .ensures))
+    let s = test .before .before .before .before .before .before in
+    let done = put-done (test .before .before .put-all .ensures) (test .if2 .left) (c .before .before .put-all2 .ensures) in
+    let says = rows-say (s .args .rows .now) (s .args .out .now) (test .before .before .before .before .if1 .left) done in
+    (says .0, (says .1, refl))
 
 pub put-rows-spec : {M : Type 1} → statement M
 put-rows-spec =
-    tie.close (tie.spec returns room-for-requires returns-2 put-all-requires same-length returns-3)
+    tie.close
+    (tie.spec
+    returns
+    slice-aggregate-put-all
+    put-all-requires
+    returns-2
+    put-all-requires-2
+    same-length
+    returns-3)

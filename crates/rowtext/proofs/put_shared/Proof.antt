@@ -1,7 +1,6 @@
 -- `put_shared` meets its contract: the third number of the row is 1, or it is not.
-use mathlib.Core.Path.{refl, sym}
+use mathlib.Core.Path.{sym}
 use Prim.Native.Nat.{_+_}
-use native.Mathlib.Omega.{arith}
 use lib.IntN.{pos}
 use lib.ListN.{getD}
 use Rattle.whole.specs.Bound.{fits64, w-pos}
@@ -47,7 +46,7 @@ returns c =
     let how = eq-taken fits (fits64 (w-pos 1) tt) (test .if1 .taken) in
     let word = first .put-text .ensures in
     let five = c .before .before .put-numbers .ensures in
-    (wrote-as (wrote-more word (five .0)) refl (sym (shared-point l from how)), omega (arith, word .place, five .1))
+    wrote-as (wrote-more word five) (sym (shared-point l from how))
 
 slice-aggregate-put-text-2 : tie.Need-slice-aggregate-put-text-2
 slice-aggregate-put-text-2 c = search needs
@@ -64,7 +63,7 @@ returns-2 c =
     let l = s .args .list .now in
     let from = s .args .from in
     let word = c .before .before .put-text2 .ensures in
-    (wrote-as word refl (sym (shared-many l from (eq-left (c .before .before .before .before .before .if1 .left)))), omega (arith, word .place))
+    wrote-as word (sym (shared-many l from (eq-left (c .before .before .before .before .before .if1 .left))))
 
 pub put-shared-spec : {M : Type 1} → statement M
 put-shared-spec =

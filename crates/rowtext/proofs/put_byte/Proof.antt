@@ -1,0 +1,30 @@
+-- `put_byte` meets its contract: at a place behind the lent bytes nothing is written, as the definition of `set` has it.
+use mathlib.Core.Path.{_≡_, sym, _∙_, ap}
+use mathlib.Core.Logic.{⊎-elim}
+use native.Mathlib.Omega.{arith}
+use lib.ListN.{set, length-set}
+use Rattle.rowtext.specs.WroteLaws.{set-past}
+use borrow.Author.Needs.{needs}
+use Rattle.rowtext.proofs.put_byte.Statement.{statement}
+use Rattle.rowtext.proofs.put_byte.Tie as tie
+
+bytes-are : (c : tie.After-after) →
+    let s = c .before .before .before in c .before .if1 .out ≡ set (s .args .out .now) (s .args .at) (s .args .b)
+bytes-are c =
+    let s = c .before .before .before in
+    ⊎-elim (λ w. w .1) (λ w. w .1 ∙ sym (set-past (s .args .out .now) (s .args .at) (s .args .b) (w .0 .left))) (c .before .if1 .came)
+
+slice-write-out : tie.Need-slice-write-out
+slice-write-out c = search needs
+
+after-requires : tie.Need-after-requires
+after-requires c κs = search needs
+
+same-length : tie.Need-same-length
+same-length c = simp (bytes-are c, length-set)
+
+returns : tie.Need-returns
+returns c = record { bytes = bytes-are c; place = c .after .ensures; lent = omega arith }
+
+pub put-byte-spec : {M : Type 1} → statement M
+put-byte-spec = tie.close (tie.spec slice-write-out after-requires same-length returns)
