@@ -5,6 +5,7 @@ ghost use Prim.Native.Nat.{_+_, _*_, _-_, _≤_};
 ghost use lib.ListN.{length, take};
 ghost use Rattle.io.specs.Counts.{Counts};
 ghost use Rattle.sheet.specs.Limits.{most};
+ghost use Rattle.sheet.specs.Lists.{width};
 ghost use Rattle.store.specs.Stored.{longest};
 ghost use Rattle.listing.specs.Rows.{rowWidth};
 ghost use Rattle.rowtext.specs.Put.{rowMost};
@@ -12,7 +13,7 @@ ghost use Rattle.rowtext.specs.Put.{rowMost};
 // The bytes of the longest drawing: the count in two, and each object with its kind in one and four coordinates in two.
 const LONGEST: usize = 2 + Object::MOST * 9;
 // The numbers of the most objects.
-const NUMBERS: usize = Object::MOST * listing::OBJECT_WIDTH;
+const NUMBERS: usize = Object::MOST * Object::WIDTH;
 // The others that an object can share something with.
 const OTHERS: usize = Object::MOST - 1;
 // The numbers of the rows of one object, and the bytes of their text at its longest.
@@ -85,7 +86,7 @@ fn say_rows(list: &[i64], i: usize) -> usize
 
 // Prints a listing. The brackets hold the program's buffers to what the definitions say that a sheet can need.
 fn say_listing(list: &[i64], count: usize)
-    ensures { λ r. do ⌜ (← ⟦NUMBERS⟧ .entry) ≡ most * (← ⟦listing::OBJECT_WIDTH⟧ .entry) ⌝ }
+    ensures { λ r. do ⌜ (← ⟦NUMBERS⟧ .entry) ≡ most * width ⌝ }
     ensures { λ r. do ⌜ ((← ⟦ROWS⟧ .entry) ≡ (most - 1) * rowWidth) × ((← ⟦TEXT⟧ .entry) ≡ (most - 1) * rowMost) ⌝ }
 {
     say_objects(count);

@@ -1,8 +1,8 @@
 // The whole list: the rows of object 0, of object 1, .., one after another.
-use crate::OBJECT_WIDTH;
 use crate::ROW_WIDTH;
 use crate::rows::put_rows_with;
 use crate::rows::size_with;
+use sheet::Object;
 ghost use mathlib.Core.Path.{_≡_};
 ghost use Prim.Native.Nat.{_≤_};
 ghost use lib.ListN.{length};
@@ -18,7 +18,7 @@ pub fn put_rows(list: &[i64], out: &mut [i64]) -> usize
     ensures { λ r. ⌜ r ≡ length (rowsOf (now (list .entry))) ⌝ }
     ensures { λ r. ⌜ now (out .exit) ≡ sets (now (out .entry)) 0 (rowsOf (now (list .entry))) ⌝ }
 {
-    let n = list.len() / OBJECT_WIDTH;
+    let n = list.len() / Object::WIDTH;
     let mut next = 0;
     let mut i = 0;
     while i < n {
@@ -33,7 +33,7 @@ fn size_of_rows(list: &[i64]) -> usize
     requires { ⌜ Listable (now list) ⌝ }
     ensures { λ r. ⌜ r ≡ length (rowsOf (now (list .entry))) ⌝ }
 {
-    let n = list.len() / OBJECT_WIDTH;
+    let n = list.len() / Object::WIDTH;
     let mut size = 0;
     let mut i = 0;
     while i < n {
@@ -49,7 +49,7 @@ pub fn lacking_room(list: &[i64], room: usize) -> usize
     requires { ⌜ Listable (now list) ⌝ }
     ensures { λ r. ⌜ r ≡ lacking (sharing (now (list .entry))) room ⌝ }
 {
-    let n = list.len() / OBJECT_WIDTH;
+    let n = list.len() / Object::WIDTH;
     let square = n * n;
     let pairs = (square - n) / 2;
     let every = pairs * ROW_WIDTH;

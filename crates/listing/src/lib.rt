@@ -8,7 +8,6 @@ use crate::all::put_rows;
 use crate::objects::index_refusal;
 use crate::rows::lacking_with;
 use crate::rows::put_rows_with;
-use sheet::Object;
 use sheet::lists::list_refusal;
 ghost use mathlib.Core.Path.{_≡_};
 ghost use Prim.Native.Nat.{_/_};
@@ -16,9 +15,6 @@ ghost use lib.IntN.{pos};
 ghost use lib.ListN.{length};
 ghost use Rattle.listing.specs.Rows.{rowWidth, rowsWith, rowsOf, sharingWith, sharing};
 ghost use Rattle.listing.specs.Listing.{allRefusal, oneRefusal, listed, filled};
-
-// The numbers of an object in a list.
-pub const OBJECT_WIDTH: usize = Object::WIDTH;
 
 // The numbers of a row.
 pub const ROW_WIDTH: usize = 8;

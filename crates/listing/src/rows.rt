@@ -1,5 +1,4 @@
 // Rows: what two objects of a list share, written into a lent list.
-use crate::OBJECT_WIDTH;
 use crate::ROW_WIDTH;
 use crate::objects::object_at;
 use sheet::Crossing;
@@ -93,7 +92,7 @@ pub fn put_rows_with(list: &[i64], i: usize, out: &mut [i64], at: usize) -> usiz
     ensures { λ r. ⌜ r ≡ at + length (rowsWith (now (list .entry)) i) ⌝ }
     ensures { λ r. ⌜ now (out .exit) ≡ sets (now (out .entry)) at (rowsWith (now (list .entry)) i) ⌝ }
 {
-    let n = list.len() / OBJECT_WIDTH;
+    let n = list.len() / Object::WIDTH;
     let a = object_at(list, i);
     let mut next = at;
     let mut j = i + 1;
@@ -119,7 +118,7 @@ pub fn lacking_with(list: &[i64], i: usize, room: usize) -> usize
     requires { ⌜ Listable (now list) × (i < countOf (now list)) ⌝ }
     ensures { λ r. ⌜ r ≡ lacking (sharingWith (now (list .entry)) i) room ⌝ }
 {
-    let n = list.len() / OBJECT_WIDTH;
+    let n = list.len() / Object::WIDTH;
     let later = n - (i + 1);
     let every = later * ROW_WIDTH;
     if every <= room {

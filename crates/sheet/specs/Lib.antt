@@ -8,7 +8,6 @@ pub mod Lists
 pub mod Crossing
 pub mod Answers
 pub mod AnswersLaws
-pub mod Rows
 pub mod Flags
 pub mod RefusalLaws
 pub mod Expansions
@@ -16,6 +15,7 @@ pub mod PointsLaws
 pub mod EndsLaws
 pub mod SignsLaws
 pub mod ReversedLaws
+pub mod InsideLaws
 pub mod AcceptsLaws
 pub mod OnLine
 pub mod CrossingLaws

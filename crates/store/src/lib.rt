@@ -1,5 +1,4 @@
 // Stored drawings: a list of objects as bytes, and back. The definitions are in specs/Stored.antt.
-use reading::WIDTH;
 use reading::read_count;
 use reading::read_object;
 use reading::read_objects;
@@ -70,7 +69,7 @@ pub fn read_drawing(bytes: &[u8], out: &mut [i64]) -> Read
             length: 0,
         };
     }
-    let length = count as usize * WIDTH;
+    let length = count as usize * Object::WIDTH;
     if out.len() < length {
         return Read {
             refusal: 10,
@@ -95,7 +94,7 @@ pub fn write_drawing(list: &[i64], out: &mut [u8]) -> Written
     if refusal != 0 {
         return Written { refusal, length: 0 };
     }
-    let count = list.len() / WIDTH;
+    let count = list.len() / Object::WIDTH;
     let length = number_size(count as u64) + objects_size(count, list);
     if out.len() < length {
         return Written {

@@ -9,9 +9,6 @@ ghost use Rattle.sheet.specs.Lists.{width};
 ghost use Rattle.store.specs.Stored.{numberLimit, pairOf, readNumber, unzigzag, readCoordinate, readPoint, readSide, readTo, readPair, readShape, readObject, readCount, readObjects};
 ghost use Rattle.store.specs.Tells.{Tells, Placed, Filled};
 
-// The numbers of an object in a list.
-pub(crate) const WIDTH: usize = Object::WIDTH;
-
 // A stored number and how many bytes it takes, or the number of the refusal.
 pub(crate) struct Number {
     pub refusal: i64,
@@ -300,7 +297,7 @@ pub(crate) fn put_object(out: &mut [i64], at: usize, o: Object)
     requires { ⌜ at + width ≤ most * width ⌝ }
     ensures { λ _. ⌜ Placed at (objectNumbers o) (now (out .entry)) (now (out .exit)) ⌝ }
 {
-    if out.len() < at + WIDTH {
+    if out.len() < at + Object::WIDTH {
         return;
     }
     let kind = o.kind;
@@ -334,7 +331,7 @@ pub(crate) fn read_objects(count: u64, bytes: &[u8], out: &mut [i64]) -> i64
         let object = part.object;
         put_object(out, to, object);
         at += part.size;
-        to += WIDTH;
+        to += Object::WIDTH;
         left -= 1;
     }
     if at < bytes.len() {
