@@ -22,7 +22,8 @@ use Rattle.sheet.specs.Flags.{either}
 use Rattle.store.specs.declared.Place.{Place}
 use Rattle.store.specs.declared.Item.{Item}
 use Rattle.store.specs.declared.Item.the-variants.{One, End, Refused}
-use Rattle.store.specs.Stored.{width, Reading, got, no, next, checked, Drawing, pairOf, unzigzag, sideObject, andThen, counted, readGroups, readNumber, readCoordinate, readPoint, readSide, readTo, readPair, readShape, readObject, readObjects, readCount, readDrawing}
+use Rattle.store.specs.Stored.{width, Reading, got, no, next, checked, Drawing, pairOf, unzigzag, sideObject, andThen, counted}
+use Rattle.store.specs.Stored.{readGroups, readNumber, readCoordinate, readPoint, readSide, readTo, readPair, readShape, readObject, readObjects, readCount, readDrawing}
 use Rattle.store.specs.Reader.{startPlace, stepObject, stepFrom, stepCounted, stepOf, callFrom, itemOf}
 use Rattle.store.specs.ObjectsLaws.{objects-length}
 use Rattle.store.specs.SureLaws.{Sure, sure-count}
