@@ -1,0 +1,72 @@
+-- `item_at` meets its contract: after some calls at the start, what is left are the calls at the place reached. Assumes nothing.
+use borrow.Author.Needs.{needs}
+use mathlib.Core.Path.{_≡_, refl, sym, ap, _∙_}
+use Prim.Native.Nat.{ℕ, _-_}
+use native.Mathlib.Omega.{arith}
+use Rattle.store.specs.declared.Place.{Place}
+use Rattle.store.specs.declared.Stepped.{Stepped}
+use Rattle.store.specs.Reader.{startPlace, callFrom}
+use Rattle.store.specs.StepLaws.{first-call}
+use Rattle.store.specs.ReaderLaws.{calls-give}
+use Rattle.viewer.specs.CallsLaws.{call-more}
+use Rattle.viewer.proofs.item_at.Statement.{statement}
+use Rattle.viewer.proofs.item_at.Tie as tie
+
+abbrev Inv-loop : tie.InvT-loop
+Inv-loop bytes i place₀ left₀ place left = callFrom bytes place left ≡ callFrom bytes startPlace i
+
+abbrev μ-loop : tie.MeasureT-loop
+μ-loop bytes i place₀ left₀ place left = left
+
+start-requires : tie.Need-start-requires Inv-loop μ-loop
+start-requires c κs = search needs
+
+loop-holds : tie.Need-loop-holds Inv-loop μ-loop
+loop-holds c = ap (λ (p : Place). callFrom (c .before .before .args .bytes .now) p (c .before .before .args .i)) (c .start .ensures)
+
+step-requires : tie.Need-step-requires Inv-loop μ-loop
+step-requires c κs = search needs
+
+sub-left : tie.Need-sub-left Inv-loop μ-loop
+sub-left c = search needs
+
+loop-less : tie.Need-loop-less Inv-loop μ-loop
+loop-less c = search needs
+
+loop-again : tie.Need-loop-again Inv-loop μ-loop
+loop-again c =
+    let bs = c .before .before .before .before .before .before .args .bytes .now in
+    let l = c .before .before .before .loop in
+    ap (λ (s : Stepped). callFrom bs (s .place) (l .left - 1)) (c .before .step .ensures)
+    ∙ sym (call-more bs (l .place) (l .left) (omega arith))
+    ∙ l .inv
+
+step-requires-2 : tie.Need-step-requires-2 Inv-loop μ-loop
+step-requires-2 c κs = search needs
+
+returns : tie.Need-returns Inv-loop μ-loop
+returns c =
+    let s = c .before .before .before .before .before in
+    let bs = s .args .bytes .now in
+    let l = c .before .before .loop in
+    let done : 0 ≡ l .left = omega arith in
+    ap (λ (s : Stepped). s .item) (c .step2 .ensures)
+    ∙ first-call bs (l .place)
+    ∙ ap (callFrom bs (l .place)) done
+    ∙ l .inv
+    ∙ calls-give bs (s .args .i)
+
+pub item-at-spec : {M : Type 1} → statement M
+item-at-spec =
+    tie.close
+    (tie.spec
+    Inv-loop
+    μ-loop
+    start-requires
+    loop-holds
+    step-requires
+    sub-left
+    loop-less
+    loop-again
+    step-requires-2
+    returns)

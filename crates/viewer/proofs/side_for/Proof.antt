@@ -1,0 +1,110 @@
+-- `side_for` meets its contract: the kernel refuses neither an accepted object nor a point within 2,000. Assumes nothing.
+use borrow.Author.Needs.{needs}
+use mathlib.Core.Path.{_≡_, sym, ap, _∙_}
+use mathlib.Core.Bool.{false, _||_}
+use mathlib.Core.List.{[], _∷_}
+use Prim.Native.Nat.{_<_, _^_}
+use native.Mathlib.Omega.{arith}
+use lib.Signed.{mag}
+use lib.IntN.{pos}
+use Rattle.whole.specs.Bound.{fits64, w-is}
+use Rattle.whole.specs.Tests.{out-is}
+use Rattle.sheet.specs.declared.Point.{Point}
+use Rattle.sheet.specs.Refusal.{beyond}
+use Rattle.sheet.specs.Signs.{sideSign, sideSignRefusal}
+use Rattle.sheet.specs.Answers.{answer, signedSays}
+use Rattle.sheet.specs.SignsLaws.{side-sign-within}
+use Rattle.kernel.proofs.Handed as handed
+use Rattle.viewer.specs.Calls.{whole}
+use Rattle.viewer.specs.CallsLaws.{place-far, place-near, side-taken, signed-sign, signed-refused}
+use Rattle.viewer.proofs.side_for.Statement.{statement}
+use Rattle.viewer.proofs.side_for.Tie as tie
+
+is-beyond-requires : tie.Need-is-beyond-requires
+is-beyond-requires c κs = search needs
+
+is-beyond-requires-2 : tie.Need-is-beyond-requires-2
+is-beyond-requires-2 c κs = search needs
+
+add-result : tie.Need-add-result
+add-result c = search needs
+
+tested : (c : tie.After-is-beyond2) →
+    (beyond (c .before .before .args .x) || beyond (c .before .before .args .y)) ≡ (c .before .is-beyond .result || c .is-beyond2 .result)
+tested c =
+    let s = c .before .before in
+    simp (c .before .is-beyond .ensures, c .is-beyond2 .ensures, out-is, s .fits .x, s .fits .y)
+
+returns : tie.Need-returns
+returns c =
+    let s = c .before .before .before in
+    place-far (s .args .x) (s .args .y) (s .args .o) (tested (c .before) ∙ c .if1 .taken)
+
+side-of-requires : tie.Need-side-of-requires
+side-of-requires c κs = search needs
+
+near : (c : tie.After-side-of) →
+    (beyond (c .before .before .before .before .args .x) || beyond (c .before .before .before .before .args .y)) ≡ false
+near c = tested (c .before .before) ∙ c .before .if1 .left
+
+none : (c : tie.After-side-of) →
+    let s = c .before .before .before .before in sideSignRefusal (s .args .o) (whole (s .args .x) (s .args .y)) ≡ pos 0
+none c =
+    let s = c .before .before .before .before in
+    side-taken (s .args .x) (s .args .y) (near c) (s .args .o) (s .pre .accepted)
+
+-- the point is handed on number by number
+said : (c : tie.After-side-of) →
+    let s = c .before .before .before .before in
+    let p = whole (s .args .x) (s .args .y) in
+    signedSays (c .side-of .result) ≡ answer (sideSignRefusal (s .args .o) p) (sideSign (s .args .o) p ∷ [])
+said c =
+    let s = c .before .before .before .before in
+    let o = s .args .o in
+    let nought : mag (pos 0) < 2 ^ 63 = omega arith in
+    let one : mag (pos 1) < 2 ^ 63 = omega arith in
+    c .side-of .ensures
+    ∙ ap (λ (p : Point). answer (sideSignRefusal o p) (sideSign o p ∷ []))
+    (handed.point (whole (s .args .x) (s .args .y)) nought (s .fits .x .sfits) nought (s .fits .y .sfits) one)
+
+enum-known-signed : tie.Need-enum-known-signed
+enum-known-signed c = search needs
+
+enum-known-signed-2 : tie.Need-enum-known-signed-2
+enum-known-signed-2 c = search needs
+
+never : (c : tie.After-known-told2) → ⊥
+never c =
+    let k = c .before .before .before in
+    signed-refused _ (c .before .signed2 .given .0 .0) _ (none k) (sym (ap signedSays (c .before .signed2 .given .1)) ∙ said k)
+
+add-result-2 : tie.Need-add-result-2
+add-result-2 c = absurd (never c)
+
+returns-2 : tie.Need-returns-2
+returns-2 c =
+    let k = c .before .before .before in
+    let s = k .before .before .before .before in
+    let o = s .args .o in
+    let is = signed-sign _ (c .before .signed .given .0 .0) _ (none k) (sym (ap signedSays (c .before .signed .given .1)) ∙ said k) in
+    out-is (fits64 (w-is is (side-sign-within o (whole (s .args .x) (s .args .y)))) tt)
+    ∙ is
+    ∙ place-near (s .args .x) (s .args .y) (near k) o
+
+returns-3 : tie.Need-returns-3
+returns-3 c = absurd (never c)
+
+pub side-for-spec : {M : Type 1} → statement M
+side-for-spec =
+    tie.close
+    (tie.spec
+    is-beyond-requires
+    is-beyond-requires-2
+    add-result
+    returns
+    side-of-requires
+    enum-known-signed
+    enum-known-signed-2
+    add-result-2
+    returns-2
+    returns-3)

@@ -1,0 +1,14 @@
+use mathlib.Core.Path.{_∙_}
+use Rattle.whole.specs.Tests.{out-ok}
+use borrow.Author.Needs.{needs}
+use Rattle.viewer.proofs.silvanelga_check.Statement.{statement}
+use Rattle.viewer.proofs.silvanelga_check.Tie as tie
+
+check-drawing-requires : tie.Need-check-drawing-requires
+check-drawing-requires c κs = search needs
+
+returns : tie.Need-returns
+returns c = out-ok (c .check-drawing .result) (c .check-drawing .ok) ∙ c .check-drawing .ensures
+
+pub silvanelga-check-spec : {M : Type 1} → statement M
+silvanelga-check-spec = tie.close (tie.spec check-drawing-requires returns)

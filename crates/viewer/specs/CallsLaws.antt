@@ -1,0 +1,181 @@
+-- The viewer's calls, step by step as the code goes. To cite:
+--   call-more                 a later call of a reader is one call fewer from the place after this one
+--   place-far, place-near     a point beyond 2,000 and one that is not; side-taken: the kernel then refuses nothing
+--   signed-sign, signed-refused   what the kernel says where it refuses nothing
+--   bytes-within              a refusal of stored bytes is a small number
+--   answer-bytes, answer-index, answer-object   the bytes' own refusal, 13, and the side of the object
+--   farIndex, index-far, index-natural   an index that no drawing has, and a natural one
+--   found, missed             what a call of the reader says of the index
+-- Assumes nothing.
+use mathlib.Core.Path.{_≡_, refl, sym, ap, subst, _∙_}
+use mathlib.Core.Logic.{_⊎_, inl, inr}
+use mathlib.Core.Bool.{Bool, true, false, cond, not, _&&_, _||_, true≢false}
+use mathlib.Core.List.{List, [], _∷_}
+use Prim.Native.Nat.{ℕ, zero, suc, _*_, _-_, _<_, _≤_}
+use native.Mathlib.Omega.{arith}
+use borrow.Author.Tests.{eqb-true, lt-ltb, le-ltb, ltb-true, ltb-false, leb-true, leb-false}
+use lib.Dec.{eqb, leb, ltb}
+use lib.IntN.{ℤ, pos, negsuc, natAbs, _+ℤ_}
+use lib.ListN.{length}
+use lib.Signed.{ltZ, leZ}
+use Rattle.whole.specs.Bound.{Within, w-intro, w-is}
+use Rattle.whole.specs.Tests.{eq-eqZ, ne-eqZ}
+use Rattle.sheet.specs.declared.Object.{Object}
+use Rattle.sheet.specs.declared.Signed.the-variants.{Sign, Refused}
+use Rattle.sheet.specs.Refusal.{beyond, objectRefusal}
+use Rattle.sheet.specs.Points.{pointRefusal}
+use Rattle.sheet.specs.Signs.{sideSign, sideSignRefusal}
+use Rattle.sheet.specs.Answers.{answer, signedSays}
+use Rattle.sheet.specs.AnswersLaws.{accepted}
+use Rattle.sheet.specs.Flags.{both, neither, either, flags}
+use Rattle.sheet.specs.RefusalLaws.{Small}
+use Rattle.sheet.specs.PointsLaws.{point-is}
+use Rattle.sheet.specs.EndsLaws.{given-fine}
+use Rattle.store.specs.declared.Place.{Place}
+use Rattle.store.specs.declared.Item.the-variants.{One, End}
+use Rattle.store.specs.Stored.{width, objectAt, Drawing, readDrawing}
+use Rattle.store.specs.Reader.{stepOf, callFrom, endOf, itemOf}
+use Rattle.viewer.specs.Calls.{count, object, whole, noIndex, sideIn, sideFor}
+use Rattle.viewer.specs.Answered.{among, OneOf, ofBytes}
+use Rattle.viewer.specs.ReadingLaws.{Good, bytes-refusal}
+
+pub call-more : (bs : List ℕ) (p : Place) (k : ℕ) → 0 < k → callFrom bs p k ≡ callFrom bs (stepOf bs p .place) (k - 1)
+unfolding callFrom
+call-more bs p zero h = absurd (omega arith)
+call-more bs p (suc k) h = let e : k ≡ suc k - 1 = omega arith in ap (callFrom bs (stepOf bs p .place)) e
+
+-- ---- the point
+
+module _ (x y : ℤ) where
+  pub place-far : (o : Object) → (beyond x || beyond y) ≡ true → pos 102 ≡ sideFor o x y
+  unfolding sideFor
+  place-far o e = simp e
+
+  module _ (e : (beyond x || beyond y) ≡ false) where
+    pub place-near : (o : Object) → sideSign o (whole x y) ≡ sideFor o x y
+    unfolding sideFor
+    place-near o = simp e
+
+    place-point : pointRefusal (whole x y) ≡ pos 0
+    unfolding pointRefusal
+    place-point =
+        let f = simp flags at e in
+        let s : Small 2000 (record { x = x; y = y }) = record { in-x = w-intro (f .0 .0) (f .0 .1); in-y = w-intro (f .1 .0) (f .1 .1) } in
+        simp (point-is (whole x y) .1 (given-fine s .point))
+
+    -- the kernel refuses neither the object nor the point
+    pub side-taken : (o : Object) → objectRefusal o ≡ pos 0 → sideSignRefusal o (whole x y) ≡ pos 0
+    unfolding sideSignRefusal
+    side-taken o h = simp (eq-eqZ h, place-point)
+
+pub signed-sign : (n s v : ℤ) → n ≡ pos 0 → signedSays (Sign s) ≡ answer n (v ∷ []) → s ≡ v
+signed-sign n s v z e = let f : pos 0 ∷ s ∷ [] ≡ pos 0 ∷ v ∷ [] = e ∙ accepted (v ∷ []) z in cc
+
+pub signed-refused : (n m v : ℤ) → n ≡ pos 0 → signedSays (Refused m) ≡ answer n (v ∷ []) → ⊥
+signed-refused n m v z e =
+    let f : m ∷ [] ≡ pos 0 ∷ v ∷ [] = e ∙ accepted (v ∷ []) z in let z : _≡_ {A = ℕ} 0 1 = cc in omega arith
+
+-- ---- numbers of refusals
+
+abbrev upto : ℕ → List ℕ → Bool
+upto k [] = true
+upto k (m ∷ ms) = leb m k && upto k ms
+
+among-upto : (k n : ℕ) (ms : List ℕ) → upto k ms ≡ true → among n ms ≡ true → n ≤ k
+among-upto k n [] h e = absurd (true≢false (sym e))
+among-upto k n (m ∷ ms) h e =
+    let b = both (leb m k) (upto k ms) .0 h in
+    go (either (eqb n m) (among n ms) .0 e) (b .0) (among-upto k n ms (b .1))
+  where
+    go : (eqb n m ≡ true) ⊎ (among n ms ≡ true) → leb m k ≡ true → (among n ms ≡ true → n ≤ k) → n ≤ k
+    go (inl f) l u = subst (λ (j : ℕ). j ≤ k) (sym (eqb-true n m f)) (leb-true m k l)
+    go (inr f) l u = u f
+
+pub bytes-within : (bs : List ℕ) → Within 11 (readDrawing bs .refusal)
+bytes-within bs =
+    let o = bytes-refusal bs in
+    w-is (o .is) (record { within = among-upto 11 (o .number) (0 ∷ ofBytes) refl (o .one) })
+
+-- ---- the index
+
+module _ (d : Drawing) (i x y : ℤ) where
+  pub answer-bytes : (d .refusal ≡ pos 0 → ⊥) → sideIn d i x y ≡ pos 100 +ℤ d .refusal
+  unfolding sideIn
+  answer-bytes h = simp (ne-eqZ h)
+
+  module _ (z : d .refusal ≡ pos 0) where
+    pub answer-index : noIndex d i ≡ true → sideIn d i x y ≡ pos 113
+    unfolding sideIn
+    answer-index e = simp (eq-eqZ z, e)
+
+    pub answer-object : noIndex d i ≡ false → sideIn d i x y ≡ sideFor (object d i) x y
+    unfolding sideIn sideFor
+    answer-object e = simp (eq-eqZ z, e)
+
+-- below 0, or too large for any drawing
+abbrev pub farIndex : ℤ → Bool
+farIndex i = ltZ i (pos 0) || leZ (pos 512) i
+
+pub index-far : (d : Drawing) (i : ℤ) → Good d → farIndex i ≡ true → noIndex d i ≡ true
+index-far d (negsuc k) g e = refl
+index-far d (pos k) g e = go (ltb k (count d)) (ltb-true k (count d)) (either (ltb k 0) (leb 512 k) .0 e)
+  where
+    go : (t : Bool) → (t ≡ true → k < count d) → (ltb k 0 ≡ true) ⊎ (leb 512 k ≡ true) → (ltb k 0 || not t) ≡ true
+    go false y f = either (ltb k 0) true .1 (inr refl)
+    go true y (inl f) = let l = ltb-true k 0 f in absurd (omega arith)
+    go true y (inr f) = let l = leb-true 512 k f in absurd (omega (arith, y refl, g .few))
+
+-- else a natural number
+pub record Natural (i : ℤ) : Type 0 where
+  pub is : i ≡ pos (natAbs i)
+  pub small : natAbs i < 512
+
+pub index-natural : (i : ℤ) → farIndex i ≡ false → Natural i
+index-natural (negsuc k) e = absurd (true≢false e)
+index-natural (pos k) e = record { is = refl; small = leb-false 512 k (neither (ltb k 0) (leb 512 k) .0 e .1) }
+
+-- ---- the object
+
+module _ (d : Drawing) (g : Good d) where
+  index-here : (k : ℕ) → k * width < length (d .objects) → noIndex d (pos k) ≡ false
+  index-here k h =
+      let l : k < count d = omega (arith, g .five) in
+      simp (le-ltb k 0 (omega arith), lt-ltb k (count d) l)
+
+  index-past : (k : ℕ) → length (d .objects) ≤ k * width → noIndex d (pos k) ≡ true
+  index-past k h =
+      let l : count d ≤ k = omega (arith, g .five) in
+      simp (le-ltb k 0 (omega arith), le-ltb k (count d) l)
+
+  module _ (z : d .refusal ≡ pos 0) (i : ℤ) (n : Natural i) where
+    -- where a call of the reader gives an object
+    pub found : (o : Object) → One o ≡ itemOf d (natAbs i) → (noIndex d i ≡ false) × (o ≡ object d i)
+    unfolding itemOf
+    found o e = go (ltb at (length (d .objects))) (ltb-true at (length (d .objects))) e
+      where
+        at : ℕ
+        at = natAbs i * width
+
+        go : (t : Bool) → (t ≡ true → at < length (d .objects)) → One o ≡ cond t (One (objectAt (d .objects) at)) (endOf (d .refusal))
+            → (noIndex d i ≡ false) × (o ≡ object d i)
+        go true y e =
+            let f : o ≡ objectAt (d .objects) at = cc in
+            (subst (λ (j : ℤ). noIndex d j ≡ false) (sym (n .is)) (index-here (natAbs i) (y refl)), f)
+        go false y e =
+            let f : One o ≡ End = e ∙ simp (eq-eqZ z) in
+            let z : _≡_ {A = ℕ} 0 1 = cc in
+            absurd (omega arith)
+
+    -- and where it gives none
+    pub missed : ((o : Object) → itemOf d (natAbs i) ≡ One o → ⊥) → noIndex d i ≡ true
+    unfolding itemOf
+    missed h = go (ltb at (length (d .objects))) (ltb-false at (length (d .objects))) h
+      where
+        at : ℕ
+        at = natAbs i * width
+
+        go : (t : Bool) → (t ≡ false → length (d .objects) ≤ at)
+            → ((o : Object) → cond t (One (objectAt (d .objects) at)) (endOf (d .refusal)) ≡ One o → ⊥)
+            → noIndex d i ≡ true
+        go true y h = absurd (h (objectAt (d .objects) at) refl)
+        go false y h = subst (λ (j : ℤ). noIndex d j ≡ true) (sym (n .is)) (index-past (natAbs i) (y refl))

@@ -1,0 +1,5 @@
+pub mod Calls
+pub mod Answered
+pub mod ReadingLaws
+pub mod CallsLaws
+pub mod AnsweredLaws
