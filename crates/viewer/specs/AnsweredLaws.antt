@@ -20,9 +20,10 @@ use Rattle.sheet.specs.Refusal.{beyond, objectRefusal}
 use Rattle.sheet.specs.Signs.{orElse, sideSign, sideSignRefusal}
 use Rattle.sheet.specs.SignsLaws.{side-sign-within}
 use Rattle.sheet.specs.AnswersLaws.{or-zero}
+use Rattle.sheet.specs.Lists.{width}
 use Rattle.sheet.specs.Flags.{neither, either, isnt-not, cond-zero}
 use Rattle.store.specs.declared.Item.the-variants.{One}
-use Rattle.store.specs.Stored.{width, Drawing, readDrawing}
+use Rattle.store.specs.Stored.{Drawing, readDrawing}
 use Rattle.store.specs.Reader.{itemOf}
 use Rattle.viewer.specs.Calls.{checkAnswer, count, object, whole, noIndex, indexRefusal, placeRefusal, callRefusal, sideIn, sideAnswer}
 use Rattle.viewer.specs.Answered.{among, OneOf, ofBytes, ofSide, Answered, a-sign, a-refusal}

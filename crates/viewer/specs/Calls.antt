@@ -2,9 +2,8 @@
 -- -1, 0, 1, or 100 plus the refusal: the bytes' own, then 13, then 2." Definitions alone; their laws are in CallsLaws.
 use mathlib.Core.Bool.{Bool, cond, not, _||_}
 use mathlib.Core.List.{List}
-use Prim.Native.Nat.{ℕ, _*_, _/_}
+use Prim.Native.Nat.{ℕ}
 use lib.IntN.{ℤ, pos, natAbs, _+ℤ_}
-use lib.ListN.{length}
 use lib.Signed.{ltZ}
 use Rattle.whole.specs.Tests.{eqZ}
 use Rattle.sheet.specs.declared.Object.{Object}
@@ -12,18 +11,19 @@ use Rattle.sheet.specs.declared.Point.{Point}
 use Rattle.sheet.specs.Refusal.{beyond}
 use Rattle.sheet.specs.Points.{given}
 use Rattle.sheet.specs.Signs.{orElse, sideSign}
-use Rattle.store.specs.Stored.{width, objectAt, Drawing, readDrawing}
+use Rattle.sheet.specs.Lists.{countOf, objectAt}
+use Rattle.store.specs.Stored.{Drawing, readDrawing}
 
 -- "check these stored bytes (0 or the refusal)"
 abbrev pub checkAnswer : List ℕ → ℤ
 checkAnswer bytes = readDrawing bytes .refusal
 
 abbrev pub count : Drawing → ℕ
-count d = length (d .objects) / width
+count d = countOf (d .objects)
 
 -- the object of index i
 abbrev pub object : Drawing → ℤ → Object
-object d i = objectAt (d .objects) (natAbs i * width)
+object d i = objectAt (d .objects) (natAbs i)
 
 -- the point of whole x, y
 abbrev pub whole : ℤ → ℤ → Point

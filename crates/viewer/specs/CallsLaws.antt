@@ -27,13 +27,14 @@ use Rattle.sheet.specs.Points.{pointRefusal}
 use Rattle.sheet.specs.Signs.{sideSign, sideSignRefusal}
 use Rattle.sheet.specs.Answers.{answer, signedSays}
 use Rattle.sheet.specs.AnswersLaws.{accepted}
+use Rattle.sheet.specs.Lists.{width, objectAt}
 use Rattle.sheet.specs.Flags.{both, neither, either, flags}
 use Rattle.sheet.specs.RefusalLaws.{Small}
 use Rattle.sheet.specs.PointsLaws.{point-is}
 use Rattle.sheet.specs.EndsLaws.{given-fine}
 use Rattle.store.specs.declared.Place.{Place}
 use Rattle.store.specs.declared.Item.the-variants.{One, End}
-use Rattle.store.specs.Stored.{width, objectAt, Drawing, readDrawing}
+use Rattle.store.specs.Stored.{Drawing, readDrawing}
 use Rattle.store.specs.Reader.{stepOf, callFrom, endOf, itemOf}
 use Rattle.viewer.specs.Calls.{count, object, whole, noIndex, sideIn, sideFor}
 use Rattle.viewer.specs.Answered.{among, OneOf, ofBytes}
@@ -156,10 +157,10 @@ module _ (d : Drawing) (g : Good d) where
         at : ℕ
         at = natAbs i * width
 
-        go : (t : Bool) → (t ≡ true → at < length (d .objects)) → One o ≡ cond t (One (objectAt (d .objects) at)) (endOf (d .refusal))
+        go : (t : Bool) → (t ≡ true → at < length (d .objects)) → One o ≡ cond t (One (objectAt (d .objects) (natAbs i))) (endOf (d .refusal))
             → (noIndex d i ≡ false) × (o ≡ object d i)
         go true y e =
-            let f : o ≡ objectAt (d .objects) at = cc in
+            let f : o ≡ objectAt (d .objects) (natAbs i) = cc in
             (subst (λ (j : ℤ). noIndex d j ≡ false) (sym (n .is)) (index-here (natAbs i) (y refl)), f)
         go false y e =
             let f : One o ≡ End = e ∙ simp (eq-eqZ z) in
@@ -175,7 +176,7 @@ module _ (d : Drawing) (g : Good d) where
         at = natAbs i * width
 
         go : (t : Bool) → (t ≡ false → length (d .objects) ≤ at)
-            → ((o : Object) → cond t (One (objectAt (d .objects) at)) (endOf (d .refusal)) ≡ One o → ⊥)
+            → ((o : Object) → cond t (One (objectAt (d .objects) (natAbs i))) (endOf (d .refusal)) ≡ One o → ⊥)
             → noIndex d i ≡ true
-        go true y h = absurd (h (objectAt (d .objects) at) refl)
+        go true y h = absurd (h (objectAt (d .objects) (natAbs i)) refl)
         go false y h = subst (λ (j : ℤ). noIndex d j ≡ true) (sym (n .is)) (index-past (natAbs i) (y refl))

@@ -18,11 +18,12 @@ use Rattle.sheet.specs.declared.Object.{Object}
 use Rattle.sheet.specs.Figure.{Vec}
 use Rattle.sheet.specs.Limits.{most}
 use Rattle.sheet.specs.Refusal.{outside, beyond, equal, pairRefusal, sideRefusal, objectRefusal}
+use Rattle.sheet.specs.Lists.{width}
 use Rattle.sheet.specs.Flags.{either}
 use Rattle.store.specs.declared.Place.{Place}
 use Rattle.store.specs.declared.Item.{Item}
 use Rattle.store.specs.declared.Item.the-variants.{One, End, Refused}
-use Rattle.store.specs.Stored.{width, Reading, got, no, next, checked, Drawing, pairOf, unzigzag, sideObject, andThen, counted}
+use Rattle.store.specs.Stored.{Reading, got, no, next, checked, Drawing, pairOf, unzigzag, sideObject, andThen, counted}
 use Rattle.store.specs.Stored.{readGroups, readNumber, readCoordinate, readPoint, readSide, readTo, readPair, readShape, readObject, readObjects, readCount, readDrawing}
 use Rattle.store.specs.Reader.{startPlace, stepObject, stepFrom, stepCounted, stepOf, callFrom, itemOf}
 use Rattle.store.specs.ObjectsLaws.{objects-length}
