@@ -26,8 +26,8 @@ pub extern "C" fn silvanelga_measure_list(list: &[i64], rows: &mut [i64]) -> i64
     ensures { λ r. ⌜ r ≡ listed (allRefusal (now (list .entry))) (sharing (now (list .entry))) (length (now (rows .entry))) .refusal ⌝ }
     ensures { λ r. ⌜ now (rows .exit) ≡ filled (allRefusal (now (list .entry))) (rowsOf (now (list .entry))) (now (rows .entry)) ⌝ }
 {
-    let listed = listing::list_all(list, rows);
-    listed.refusal
+    let list_refusal = listing::list_all(list, rows).refusal;
+    list_refusal
 }
 
 #[no_mangle]
@@ -35,8 +35,8 @@ pub extern "C" fn silvanelga_measure_read(bytes: &[u8], list: &mut [i64]) -> i64
     ensures { λ r. ⌜ r ≡ readAnswer (readDrawing (now (bytes .entry))) (now (list .entry)) .refusal ⌝ }
     ensures { λ r. ⌜ now (list .exit) ≡ readInto (readDrawing (now (bytes .entry))) (now (list .entry)) ⌝ }
 {
-    let read = store::read_drawing(bytes, list);
-    read.refusal
+    let read_refusal = store::read_drawing(bytes, list).refusal;
+    read_refusal
 }
 
 #[no_mangle]
@@ -44,8 +44,8 @@ pub extern "C" fn silvanelga_measure_write(list: &[i64], bytes: &mut [u8]) -> i6
     ensures { λ r. ⌜ r ≡ writeAnswer (now (list .entry)) (now (bytes .entry)) .refusal ⌝ }
     ensures { λ r. ⌜ now (bytes .exit) ≡ writeInto (now (list .entry)) (now (bytes .entry)) ⌝ }
 {
-    let written = store::write_drawing(list, bytes);
-    written.refusal
+    let write_refusal = store::write_drawing(list, bytes).refusal;
+    write_refusal
 }
 
 #[no_mangle]
