@@ -11,7 +11,6 @@ use screen::extents::box_of;
 use screen::places::place_of;
 use sheet::Crossing;
 use sheet::Ends;
-use sheet::Object;
 use sheet::Point;
 
 const DIGITS: usize = 16;
@@ -45,25 +44,17 @@ fn place(p: Point) {
     }
 }
 
-fn named(words: &[u8], p: Point) {
-    say::text(words);
-    place(p);
+fn point(mx: i64, nx: i64, my: i64, ny: i64, w: i64) {
+    place(pt(mx, nx, my, ny, w));
 }
 
-fn ends(words: &[u8], o: Object) {
-    match ends_of(o) {
+fn ends(kind: i64, px: i64, py: i64, qx: i64, qy: i64) {
+    match ends_of(obj(kind, px, py, qx, qy)) {
         Ends::Both(first, last) => {
-            named(words, first);
-            named(words, last);
+            place(first);
+            place(last);
         }
         Ends::Refused(n) => say::refused(n),
-    }
-}
-
-fn crossing(words: &[u8], a: Object, b: Object) {
-    match cross(a, b) {
-        Crossing::Once(p) => named(words, p),
-        _ => say::end(),
     }
 }
 
@@ -80,67 +71,63 @@ fn extent(e: Extent) {
     say::end();
 }
 
-fn boxed(words: &[u8], list: &[i64]) {
-    say::text(words);
+fn boxed(list: &[i64]) {
     match box_of(list) {
         Boxed::Around(e) => extent(e),
         Boxed::Refused(n) => say::refused(n),
     }
 }
 
-// The four sides, and the four corners, each on the side that begins there.
 pub fn edges() {
-    named(b"left", pt(-2, 0, 1, 3, 2));
-    named(b"bottom", pt(1, 5, -3, 0, 3));
-    named(b"right", pt(7, 0, -2, 6, 7));
-    named(b"top", pt(0, 5, 1, 0, 1));
-    named(b"corner of 4 and 1", pt(-1, 0, 1, 0, 1));
-    named(b"corner of 1 and 2", pt(-1, 0, -1, 0, 1));
-    named(b"corner of 2 and 3", pt(1, 0, -1, 0, 1));
-    named(b"corner of 3 and 4", pt(1, 0, 1, 0, 1));
+    say::text(b"on the left, the bottom, the right, the top");
+    point(-2, 0, 1, 3, 2);
+    point(1, 5, -3, 0, 3);
+    point(7, 0, -2, 6, 7);
+    point(0, 5, 1, 0, 1);
+    say::text(b"corners where sides 1, 2, 3 and 4 begin");
+    point(-1, 0, 1, 0, 1);
+    point(-1, 0, -1, 0, 1);
+    point(1, 0, -1, 0, 1);
+    point(1, 0, 1, 0, 1);
 }
 
 pub fn every_end() {
-    ends(b"end of segment 1 2 to -3 4", obj(1, 1, 2, -3, 4));
-    ends(b"end of ray 0 1 through 3 2", obj(2, 0, 1, 3, 2));
-    ends(b"end of line 0 1 to 2 2", obj(3, 0, 1, 2, 2));
-    ends(b"end of line 5 0 to 5 1", obj(3, 5, 0, 5, 1));
-    ends(b"end of side 1", obj(4, 1, 0, 0, 0));
-    ends(b"end of side 2", obj(4, 2, 0, 0, 0));
-    ends(b"end of side 3", obj(4, 3, 0, 0, 0));
-    ends(b"end of side 4", obj(4, 4, 0, 0, 0));
+    say::text(b"ends of segment 1 2 to -3 4");
+    ends(1, 1, 2, -3, 4);
+    say::text(b"ends of ray 0 1 through 3 2");
+    ends(2, 0, 1, 3, 2);
+    say::text(b"ends of line 0 1 to 2 2");
+    ends(3, 0, 1, 2, 2);
+    say::text(b"ends of line 5 0 to 5 1");
+    ends(3, 5, 0, 5, 1);
+    say::text(b"ends of sides 1, 2, 3 and 4");
+    ends(4, 1, 0, 0, 0);
+    ends(4, 2, 0, 0, 0);
+    ends(4, 3, 0, 0, 0);
+    ends(4, 4, 0, 0, 0);
 }
 
 pub fn positions() {
-    crossing(
-        b"line 0 0 to 2 1 and segment 0 2 to 2 0",
-        obj(3, 0, 0, 2, 1),
-        obj(1, 0, 2, 2, 0),
-    );
-    named(b"origin", pt(0, 0, 0, 0, 1));
-    named(
-        b"the widest",
-        pt(0, 64_000_000_000, 0, -63_999_999_999, 32_000_000),
-    );
-    named(b"origin twice", pt(0, 0, 0, 0, 2));
-    named(b"beyond the frame", pt(1, 1, -1, 0, 1));
+    say::text(b"line 0 0 to 2 1 and segment 0 2 to 2 0");
+    if let Crossing::Once(p) = cross(obj(3, 0, 0, 2, 1), obj(1, 0, 2, 2, 0)) {
+        place(p);
+    }
+    say::text(b"origin, the widest, origin twice, beyond the frame");
+    point(0, 0, 0, 0, 1);
+    point(0, 64_000_000_000, 0, -63_999_999_999, 32_000_000);
+    point(0, 0, 0, 0, 2);
+    point(1, 1, -1, 0, 1);
 }
 
 pub fn boxes() {
-    boxed(
-        b"box of segment 1 2 to -3 4 and ray 7 -8 through 9 10",
-        &[1, 1, 2, -3, 4, 2, 7, -8, 9, 10],
-    );
-    boxed(
-        b"box of a line and a side",
-        &[3, 100, 100, 200, 300, 4, 1, 0, 0, 0],
-    );
-    boxed(b"box of nothing", &[]);
-    boxed(b"box of six numbers", &[4, 3, 0, 0, 0, 1]);
-    boxed(
-        b"box of p equals q after a side",
-        &[4, 3, 0, 0, 0, 1, 5, 6, 5, 6],
-    );
+    say::text(b"box of segment 1 2 to -3 4 and ray 7 -8 through 9 10");
+    boxed(&[1, 1, 2, -3, 4, 2, 7, -8, 9, 10]);
+    say::text(b"box of a line and a side, of nothing");
+    boxed(&[3, 100, 100, 200, 300, 4, 1, 0, 0, 0]);
+    boxed(&[]);
+    say::text(b"box of six numbers, of p equal to q, of 513 objects");
+    boxed(&[4, 3, 0, 0, 0, 1]);
+    boxed(&[4, 3, 0, 0, 0, 1, 5, 6, 5, 6]);
     let many = [4i64; 2565];
-    boxed(b"box of 513 objects", &many);
+    boxed(&many);
 }
