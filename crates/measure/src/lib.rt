@@ -1,18 +1,33 @@
-// Calls for bench/, so that a C program can time the listing and the stored drawings. Each hands on its lent lists and answers the refusal.
+// Calls for bench/ and tests/, so that a C program can time the listing and the stored drawings, and compare places and boxes.
+mod numbers;
+
+use sheet::Point;
 ghost use mathlib.Core.Path.{_≡_};
 ghost use lib.ListN.{length};
 ghost use Rattle.listing.specs.Rows.{rowsOf, sharing};
 ghost use Rattle.listing.specs.Listing.{allRefusal, listed, filled};
 ghost use Rattle.store.specs.Stored.{readDrawing};
 ghost use Rattle.store.specs.Answers.{readAnswer, readInto, writeAnswer, writeInto};
+ghost use Rattle.measure.specs.Numbers.{placeShown, boxShown};
+
+// A place or a box: the refusal or 0, the side number or the flag, and the floats, from the front.
+#[repr(C)]
+pub struct Shown {
+    pub refusal: i64,
+    pub number: i64,
+    pub first: f64,
+    pub second: f64,
+    pub third: f64,
+    pub fourth: f64,
+}
 
 #[no_mangle]
 pub extern "C" fn silvanelga_measure_list(list: &[i64], rows: &mut [i64]) -> i64
     ensures { λ r. ⌜ r ≡ listed (allRefusal (now (list .entry))) (sharing (now (list .entry))) (length (now (rows .entry))) .refusal ⌝ }
     ensures { λ r. ⌜ now (rows .exit) ≡ filled (allRefusal (now (list .entry))) (rowsOf (now (list .entry))) (now (rows .entry)) ⌝ }
 {
-    let listed = listing::list_all(list, rows);
-    listed.refusal
+    let list_refusal = listing::list_all(list, rows).refusal;
+    list_refusal
 }
 
 #[no_mangle]
@@ -20,8 +35,8 @@ pub extern "C" fn silvanelga_measure_read(bytes: &[u8], list: &mut [i64]) -> i64
     ensures { λ r. ⌜ r ≡ readAnswer (readDrawing (now (bytes .entry))) (now (list .entry)) .refusal ⌝ }
     ensures { λ r. ⌜ now (list .exit) ≡ readInto (readDrawing (now (bytes .entry))) (now (list .entry)) ⌝ }
 {
-    let read = store::read_drawing(bytes, list);
-    read.refusal
+    let read_refusal = store::read_drawing(bytes, list).refusal;
+    read_refusal
 }
 
 #[no_mangle]
@@ -29,6 +44,20 @@ pub extern "C" fn silvanelga_measure_write(list: &[i64], bytes: &mut [u8]) -> i6
     ensures { λ r. ⌜ r ≡ writeAnswer (now (list .entry)) (now (bytes .entry)) .refusal ⌝ }
     ensures { λ r. ⌜ now (bytes .exit) ≡ writeInto (now (list .entry)) (now (bytes .entry)) ⌝ }
 {
-    let written = store::write_drawing(list, bytes);
-    written.refusal
+    let write_refusal = store::write_drawing(list, bytes).refusal;
+    write_refusal
+}
+
+#[no_mangle]
+pub extern "C" fn silvanelga_measure_place(mx: i64, nx: i64, my: i64, ny: i64, w: i64) -> Shown
+    ensures { λ r. ⌜ r ≡ placeShown (record { mx = mx; nx = nx; my = my; ny = ny; w = w }) ⌝ }
+{
+    numbers::of_place(screen::places::place_of(Point { mx, nx, my, ny, w }))
+}
+
+#[no_mangle]
+pub extern "C" fn silvanelga_measure_box(list: &[i64]) -> Shown
+    ensures { λ r. ⌜ r ≡ boxShown (now (list .entry)) ⌝ }
+{
+    numbers::of_box(screen::extents::box_of(list))
 }

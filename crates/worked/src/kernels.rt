@@ -14,7 +14,7 @@ const LEAST: i64 = -9_223_372_036_854_775_808;
 
 const LARGEST: i64 = 9_223_372_036_854_775_807;
 
-fn pt(mx: i64, nx: i64, my: i64, ny: i64, w: i64) -> Point {
+pub fn pt(mx: i64, nx: i64, my: i64, ny: i64, w: i64) -> Point {
     Point { mx, nx, my, ny, w }
 }
 
@@ -22,7 +22,7 @@ fn given(x: i64, y: i64) -> Point {
     pt(0, x, 0, y, 1)
 }
 
-fn obj(kind: i64, px: i64, py: i64, qx: i64, qy: i64) -> Object {
+pub fn obj(kind: i64, px: i64, py: i64, qx: i64, qy: i64) -> Object {
     Object {
         kind,
         px,

@@ -2,6 +2,7 @@
 mod drawings;
 mod kernels;
 mod say;
+mod screens;
 
 fn main() {
     kernels::numbers();
@@ -12,4 +13,8 @@ fn main() {
     drawings::reading();
     drawings::limits();
     drawings::writing();
+    screens::edges();
+    screens::every_end();
+    screens::positions();
+    screens::boxes();
 }

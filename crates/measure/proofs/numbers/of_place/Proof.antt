@@ -1,0 +1,67 @@
+use mathlib.Core.Path.{_≡_, sym, _∙_, ap}
+use lib.IntN.{ℤ}
+use lib.Ieee.{ofBits}
+use Rattle.whole.specs.Tests.{out-ok}
+use Rattle.screen.specs.declared.Place.{Place}
+use Rattle.screen.specs.declared.Place.the-variants.{Edge, Refused}
+use Rattle.screen.specs.Places.{placeSays}
+use Rattle.measure.specs.declared.Shown.{Shown}
+use Rattle.measure.specs.Numbers.{shownOf}
+use borrow.Author.Needs.{needs}
+use Rattle.measure.proofs.numbers.of_place.Statement.{statement}
+use Rattle.measure.proofs.numbers.of_place.Tie as tie
+
+enum-known-place : tie.Need-enum-known-place
+enum-known-place c = search needs
+
+six-requires : tie.Need-six-requires
+six-requires c κs = search needs
+
+enum-known-place-2 : tie.Need-enum-known-place-2
+enum-known-place-2 c = search needs
+
+six-requires-2 : tie.Need-six-requires-2
+six-requires-2 c κs = search needs
+
+enum-known-place-3 : tie.Need-enum-known-place-3
+enum-known-place-3 c = search needs
+
+six-requires-3 : tie.Need-six-requires-3
+six-requires-3 c κs = search needs
+
+abbrev shown : Place → Shown
+shown p = shownOf (placeSays p)
+
+returns : tie.Need-returns
+unfolding ofBits
+returns c = c .six .ensures ∙ sym (ap shown (c .before .before .place .given .1))
+
+returns-2 : tie.Need-returns-2
+unfolding ofBits
+returns-2 c =
+    let e = c .before .before .place2 .given in
+    c .six2 .ensures
+    ∙ ap (λ (n : ℤ). shown (Edge n (e .0 .1 .0))) (out-ok (e .0 .0) (c .before .known-told2 .given .0 .1))
+    ∙ sym (ap shown (e .1))
+
+returns-3 : tie.Need-returns-3
+unfolding ofBits
+returns-3 c =
+    let e = c .before .before .place3 .given in
+    c .six3 .ensures
+    ∙ ap (λ (n : ℤ). shown (Refused n)) (out-ok (e .0 .0) (c .before .known-told3 .given .0 .1))
+    ∙ sym (ap shown (e .1))
+
+pub of-place-spec : {M : Type 1} → statement M
+of-place-spec =
+    tie.close
+    (tie.spec
+    enum-known-place
+    six-requires
+    enum-known-place-2
+    six-requires-2
+    enum-known-place-3
+    six-requires-3
+    returns
+    returns-2
+    returns-3)
