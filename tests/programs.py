@@ -1,5 +1,7 @@
-"""How the built programs are run: directly on x86-64, through the kit's emulator elsewhere."""
+"""How programs are built and run: the kit compiles for x86-64, and its emulator runs them elsewhere."""
 import os, platform, shutil, subprocess
+
+COMPILER = 'x86_64-linux-gnu-gcc'
 
 
 def kit():
@@ -16,3 +18,14 @@ def run(name, data):
     done = subprocess.run(runner() + [f'target/bin/{name}'], input=data, capture_output=True, timeout=60)
     assert done.returncode == 0, f'{name} ended with {done.returncode}'
     return done.stdout
+
+
+X, 'staticlib', name], check=True, stdout=subprocess.DEVNULL, stderr=subprocess.DEVNULL)
+    return f'target/staticlib/lib{name}.a'
+
+
+def driver(name):
+    """A C program of tests/ that calls the crate `measure`; the command that runs it."""
+    library, program = archive('measure'), f'target/{name}'
+    subprocess.run([COMPILER, '-O2', '-Wall', '-Wextra', '-static', f'tests/{name}.c', library, '-o', program], check=True)
+    return runner() + [program]

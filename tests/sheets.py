@@ -68,3 +68,14 @@ def damaged(rng, data):
         else:
             data[:1] = reference.write_number(rng.choice((0, 511, 512, 513, 1000, 16383)))
     return bytes(data)
+
+
+def stored(rng):
+    """Bytes of all sorts: any at all, those that matter to a reader, drawings, and drawings damaged."""
+    which = rng.randrange(8)
+    if which == 0:
+        return bytes(rng.randrange(256) for _ in range(rng.randint(0, 12)))
+    if which == 1:
+        return bytes(rng.choice((0, 1, 2, 3, 4, 5, 127, 128, 129, 160, 255)) for _ in range(rng.randint(0, 24)))
+    data = reference.write(sheet(rng))
+    return data if which < 5 else damaged(rng, data)
