@@ -20,7 +20,10 @@ def run(name, data):
     return done.stdout
 
 
-X, 'staticlib', name], check=True, stdout=subprocess.DEVNULL, stderr=subprocess.DEVNULL)
+def archive(name):
+    """The static library of a crate, and a compiler to link with it."""
+    subprocess.run(['bash', '-euc', f'. tests/need; need {COMPILER} "" gcc-x86-64-linux-gnu'], check=True)
+    subprocess.run(['rt', 'staticlib', name], check=True, stdout=subprocess.DEVNULL, stderr=subprocess.DEVNULL)
     return f'target/staticlib/lib{name}.a'
 
 
