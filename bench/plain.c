@@ -22,7 +22,7 @@ static uint64_t gcd(uint64_t x, uint64_t y)
 
 static point divide(int64_t mx, int64_t nx, int64_t my, int64_t ny, int64_t w)
 {
-    int64_t g = (int64_t)gcd(gcd(gcd(gcd(size(mx), size(nx)), size(my)), size(ny)), size(w));
+    int64_t g = (int64_t)gcd(size(mx), gcd(size(nx), gcd(size(my), gcd(size(ny), size(w)))));
     return (point){mx / g, nx / g, my / g, ny / g, w / g};
 }
 

@@ -8,15 +8,15 @@ ghost use Rattle.whole.specs.Divisor.{gcdOf};
 ghost use Rattle.sheet.specs.Points.{divided};
 ghost use Rattle.kernel.specs.Bounds.{Raw, Part};
 
-// The greatest common divisor by remainders, folded over the five numbers.
+// The greatest common divisor by remainders, folded over the five numbers. It begins with w, which is the smallest of those that are not 0
+// in most points: the remainders are then small from the second step on.
 pub fn divisor(mx: i64, nx: i64, my: i64, ny: i64, w: i64) -> u64
     ensures { λ r. ⌜ r ≡ gcdOf (mx ∷ nx ∷ my ∷ ny ∷ w ∷ []) ⌝ }
 {
-    let one = whole::size(mx);
-    let two = whole::gcd(one, whole::size(nx));
-    let three = whole::gcd(two, whole::size(my));
-    let four = whole::gcd(three, whole::size(ny));
-    whole::gcd(four, whole::size(w))
+    let two = whole::gcd(whole::size(ny), whole::size(w));
+    let three = whole::gcd(whole::size(my), two);
+    let four = whole::gcd(whole::size(nx), three);
+    whole::gcd(whole::size(mx), four)
 }
 
 fn part(n: i64, g: u64) -> i64

@@ -2,14 +2,14 @@
 --   gcd-zero, gcd-step           a step of the remainders keeps it
 --   gcd-is, gcdOf-is             what is found is one
 --   gcd-unique, gcdOf-unique     there is only one
---   gcdOf-also, gcdOf-fold       one number more, at the end of the list; five numbers, folded
+--   gcdOf-fold                   of five numbers, folded
 --   gcdOf-times                  of a list times c it is |c| times
 --   over-one, over-back          divided by it the list has divisor 1; times it the list is back
 --   same-numbers                 two lists of divisor 1 that are proportional are equal
 -- Assumes nothing.
 use mathlib.Core.Path.{_≡_, refl, sym, _∙_, ap, ap₂, subst}
 use mathlib.Core.Bool.{Bool, true, false}
-use mathlib.Core.List.{List, [], _∷_, _++_}
+use mathlib.Core.List.{List, [], _∷_}
 use Prim.Native.Nat.{ℕ, zero, suc, _*_, _/_, _%_, _∣_, _<_}
 use native.Mathlib.Nat.{dvd-refl, dvd-zero, dvd-trans, dvd-mod-iff, dvd-antisymm, dvd-mul-right, mul-dvd-mul-left, dvd-of-mul-dvd-mul-left, mod-lt, div-mul-cancel, eq-of-mul-eq-mul-left, mul-comm, mul-one, eq-zero-of-zero-dvd}
 use native.Mathlib.Omega.{arith}
@@ -84,35 +84,14 @@ gcdOf-is (z ∷ zs) = more (gcdOf-is zs) (gcd-is (natAbs z) (gcdOf zs))
 pub gcdOf-unique : {zs : List ℤ} {g h : ℕ} → IsGcdOf zs g → IsGcdOf zs h → g ≡ h
 gcdOf-unique {zs} {g} {h} p q = dvd-antisymm (q .most g (p .each)) (p .most h (q .each))
 
-all-snoc : {d : ℕ} (z : ℤ) (zs : List ℤ) → DividesAll d zs → d ∣ natAbs z → DividesAll d (zs ++ (z ∷ []))
-all-snoc z [] ps p = p also none
-all-snoc z (y ∷ zs) ps p = all-head ps also all-snoc z zs (all-tail ps) p
-
-all-front : {d : ℕ} (z : ℤ) (zs : List ℤ) → DividesAll d (zs ++ (z ∷ [])) → DividesAll d zs
-all-front z [] ps = none
-all-front z (y ∷ zs) ps = all-head ps also all-front z zs (all-tail ps)
-
-all-last : {d : ℕ} (z : ℤ) (zs : List ℤ) → DividesAll d (zs ++ (z ∷ [])) → d ∣ natAbs z
-all-last z [] ps = all-head ps
-all-last z (y ∷ zs) ps = all-last z zs (all-tail ps)
-
--- a fold from the front
-pub gcdOf-also : {zs : List ℤ} (z : ℤ) {g h : ℕ} → IsGcdOf zs g → IsGcd g (natAbs z) h → IsGcdOf (zs ++ (z ∷ [])) h
-gcdOf-also {zs} z {g} {h} p q = record {
-  each = all-snoc z zs (all-trans (q .left) (p .each)) (q .right);
-  most = λ d ds. q .most d (p .most d (all-front z zs ds)) (all-last z zs ds);
-}
-
 pub gcdOf-single : (z : ℤ) → IsGcdOf (z ∷ []) (natAbs z)
 gcdOf-single z = record { each = dvd-refl (natAbs z) also none; most = λ d ds. all-head ds }
 
--- ... over five numbers
+-- five numbers, folded from the last
 pub gcdOf-fold :
-    (a b c d e : ℤ) {g h i j : ℕ} → IsGcd (natAbs a) (natAbs b) g → IsGcd g (natAbs c) h → IsGcd h (natAbs d) i
-    → IsGcd i (natAbs e) j → j ≡ gcdOf (a ∷ b ∷ c ∷ d ∷ e ∷ [])
-gcdOf-fold a b c d e p q r s =
-    gcdOf-unique (gcdOf-also e (gcdOf-also d (gcdOf-also c (gcdOf-also b (gcdOf-single a) p) q) r) s)
-    (gcdOf-is (a ∷ b ∷ c ∷ d ∷ e ∷ []))
+    (a b c d e : ℤ) {g h i j : ℕ} → IsGcd (natAbs d) (natAbs e) g → IsGcd (natAbs c) g h → IsGcd (natAbs b) h i
+    → IsGcd (natAbs a) i j → j ≡ gcdOf (a ∷ b ∷ c ∷ d ∷ e ∷ [])
+gcdOf-fold a b c d e p q r s = gcdOf-unique (more (more (more (more (gcdOf-single e) p) q) r) s) (gcdOf-is (a ∷ b ∷ c ∷ d ∷ e ∷ []))
 
 -- ---- a factor
 

@@ -34,16 +34,16 @@ gcd-requires-4 c κs = search needs
 returns : tie.Need-returns
 returns c =
     let s = c .before .before .before .before .before .before .before .before .before in
-    let mx = c .before .before .before .before .before .before .before .before .size .ensures in
-    let nx = c .before .before .before .before .before .before .before .size2 .ensures in
+    let ny = c .before .before .before .before .before .before .before .before .size .ensures in
+    let w = c .before .before .before .before .before .before .before .size2 .ensures in
     let my = c .before .before .before .before .before .size3 .ensures in
-    let ny = c .before .before .before .size4 .ensures in
-    let w = c .before .size5 .ensures in
+    let nx = c .before .before .before .size4 .ensures in
+    let mx = c .before .size5 .ensures in
     gcdOf-fold (s .args .mx) (s .args .nx) (s .args .my) (s .args .ny) (s .args .w)
-    (simp (mx, nx, out-is, s .fits .mx, s .fits .nx) at (c .before .before .before .before .before .before .gcd .ensures))
+    (simp (ny, w, out-is, s .fits .ny, s .fits .w) at (c .before .before .before .before .before .before .gcd .ensures))
     (simp (my, out-is, s .fits .my) at (c .before .before .before .before .gcd2 .ensures))
-    (simp (ny, out-is, s .fits .ny) at (c .before .before .gcd3 .ensures))
-    (simp (w, out-is, s .fits .w) at (c .gcd4 .ensures))
+    (simp (nx, out-is, s .fits .nx) at (c .before .before .gcd3 .ensures))
+    (simp (mx, out-is, s .fits .mx) at (c .gcd4 .ensures))
 
 pub divisor-spec : {M : Type 1} → statement M
 divisor-spec =
