@@ -11,9 +11,13 @@ use screen::extents::box_of;
 use screen::places::place_of;
 use sheet::Crossing;
 use sheet::Ends;
+use sheet::Object;
 use sheet::Point;
 
 const DIGITS: usize = 16;
+
+// The numbers of one object more than a sheet has.
+const TOO_MANY: usize = (Object::MOST + 1) * Object::WIDTH;
 
 // Bits are not to be had of what is no number, which alone differs from itself.
 fn float(x: f64) {
@@ -128,6 +132,6 @@ pub fn boxes() {
     say::text(b"box of six numbers, of p equal to q, of 513 objects");
     boxed(&[4, 3, 0, 0, 0, 1]);
     boxed(&[4, 3, 0, 0, 0, 1, 5, 6, 5, 6]);
-    let many = [4i64; 2565];
+    let many = [4i64; TOO_MANY];
     boxed(&many);
 }

@@ -149,13 +149,18 @@ module _ {M : Type 1} (𝓤 : URA M) (H : Heap 𝓤) (A : Atoms 𝓤) (W : Given
   exits : (r : Stepped) → Known r → ent 𝓤 (⋆ 𝓤 H A (‵ (R.the-row .own r (got r ∷ [])) ∷ (‵ (flft κ q) ⊛ ‵ ftrue) ∷ ‵ Own ∷ [])) (Post (LL.val (F.the-type α) (F′.the-laws α) (made r)))
   exits r e =
       qed W (‵ (R.the-row .own r (got r ∷ [])) ∷ (‵ (flft κ q) ⊛ ‵ ftrue) ∷ ‵ Own ∷ []) ∵
-      suffices ! _ (ends-at 𝓤 H A next.ended stayed (next.clauses 𝓤 H A mem run) W (((κ, tt), (q, tt), tt, (d, tt), (mach ∷ [], tt)), tt) (LL.val (F.the-type α) (F′.the-laws α) (made r)) (made r) (tt, tt) (tt, tt)) $ says ! (ap made e) $
+      suffices ! _ (ends-at 𝓤 H A next.ended stayed (next.clauses 𝓤 H A mem run) W (((κ, tt), (q, tt), tt, (d, tt), (mach ∷ [], tt)), tt) (LL.val (F.the-type α)
+      (F′.the-laws α) (made r)) (made r) (tt, tt) (tt, tt)) $ says ! (ap made e) $
       move ! (1 ∷ []) $ frame ! $ move ! (1 ∷ []) $ use1 W (‵ Own ⊛ ‵ Own) (LL.copy D (T′.the-copy α) 𝓤 H A W .twice d (mach ∷ [])) $ split ! $
       nothing ! $ move ! (1 ∷ 0 ∷ []) $ fjoin ! $ frame ! $
       -- [what the struct owns; what the callee's result owns]
-      use1 W (given (mach ∷ [] ≡ mach ∷ []) (‵ (all-own (D .parts) L vd))) (own-open 𝓤 H A W D L vd mach) $ learn ! (λ _. use1 W (‵ (ownAt (D .parts) L 0 (d .bytes)) ⊛ ‵ (rest (D .parts) L 0 vd)) (own-out 𝓤 H A W (D .parts) L 0 vd) $ split ! $
+      use1 W (given (mach ∷ [] ≡ mach ∷ []) (‵ (all-own (D .parts) L vd))) (own-open 𝓤 H A W D L vd mach) $
+      learn ! (λ _. use1 W (‵ (ownAt (D .parts) L 0 (d .bytes)) ⊛ ‵ (rest (D .parts) L 0 vd)) (own-out 𝓤 H A W (D .parts) L 0 vd) $ split ! $
       move ! (1 ∷ []) $ drop ! $ move ! (1 ∷ []) $
-      use1 W (given (got r ∷ [] ≡ got r ∷ []) (‵ (all-own (R.the-type .parts) R′.the-laws (r .item, (r .place, tt))))) (own-open 𝓤 H A W R.the-type R′.the-laws (r .item, (r .place, tt)) (got r)) $ learn ! (λ _.
+      use1 W (given (got r ∷ [] ≡ got r ∷ []) (‵ (all-own (R.the-type .parts) R′.the-laws (r .item, (r .place, tt))))) (own-open 𝓤 H A W R.the-type R′.the-laws (
+        r .item,
+        (r .place, tt),
+      ) (got r)) $ learn ! (λ _.
       -- [what the callee's result's fields own; what bytes owns]
       fsplit ! $ move ! (2 ∷ 1 ∷ []) $ fjoin ! $ use1 W (‵ (B (κ, tt) .own (after r) (LL.val D L (after r) ∷ []))) (own-shut 𝓤 H A W D L (d .bytes, (r .place, tt))) $
       -- [what the reader owns; what the item owns]
@@ -169,10 +174,12 @@ module _ {M : Type 1} (𝓤 : URA M) (H : Heap 𝓤) (A : Atoms 𝓤) (W : Given
         qed W (raw (onEntry 𝓤 H A next.signature (κ, tt) (q, tt) (d, tt) (mach ∷ [], tt)) ∷ []) ∵ enter ! C Λ code.function (mach ∷ []) _ $
         alloc1 ! (λ l₀. alloc1 ! (λ l₁. alloc1 ! (λ l₂. alloc1 ! (λ l₃. alloc1 ! (λ l₄. alloc1 ! (λ l₅. alloc1 ! (λ l₆. alloc0 ! $ params1 ! $ pass1 ! (init ! 10 refl wt) $ pass0 ! $
         assigns ! (of-opd ! (load ! (from ! (fld ! refl (stop !))) (look-in ! 10 (sub ! 0 refl (whole !))))) (from ! (stop !)) (init ! 6 refl (tt, wt .1 .0)) $
-        assigns ! (of-opd ! (load ! (from ! (fld ! refl (stop !))) (look-in ! 10 (sub ! 1 refl (whole !))))) (from ! (stop !)) (init ! 4 refl (LL.lawful S.the-type S′.the-laws 𝓤 H A W .typed (d .place) _ (LL.owed D L d _ g .1 .0) .0)) $
+        assigns ! (of-opd ! (load ! (from ! (fld ! refl (stop !))) (look-in ! 10 (sub ! 1 refl (whole !))))) (from ! (stop !)) (init ! 4 refl
+        (LL.lawful S.the-type S′.the-laws 𝓤 H A W .typed (d .place) _ (LL.owed D L d _ g .1 .0) .0)) $
         move ! (14 ∷ []) $ use1 W (raw (StepC 𝓤 H A mem run .pre to) ⊛ ‵ Own) apart $ split ! $
         calls-at ! fm (StepC 𝓤 H A mem run) known to (and-then ! (load ! (from ! (stop !)) (look ! 8 refl)) (and-then ! (load ! (from ! (stop !)) (look ! 6 refl)) (no-more !))) (λ u.
-        use1 W (later (some (λ (r : Stepped). ((‵ (flft κ q) ⊛ ‵ ftrue) ⊛ ‵ (R.the-row .own r (u ∷ []))) ⊛ raw (ensured 𝓤 H A step.ended (step.clauses 𝓤 H A mem run) (κ, tt) (d .bytes, (d .place, tt)) tt r)))) (id⊢ 𝓤 _) $ await ! tt $ pick ! (λ r.
+        use1 W (later (some (λ (r : Stepped). ((‵ (flft κ q) ⊛ ‵ ftrue) ⊛ ‵ (R.the-row .own r (u ∷ []))) ⊛ raw (ensured 𝓤 H A step.ended (step.clauses 𝓤 H A mem run)
+        (κ, tt) (d .bytes, (d .place, tt)) tt r)))) (id⊢ 𝓤 _) $ await ! tt $ pick ! (λ r.
         split ! $ move ! (1 ∷ []) $ use1 W (raw (fact 𝓤 (Known r))) (said r) $ heard ! (Known r) (λ e. split ! $ move ! (1 ∷ []) $
         -- [the result; the token; what the struct owns; _6; …; _5; …; _4; …; _3; …; room for _2; …; _1; …; room for _0; …]
         peeks ! R.the-row (Is R.the-row) (shows 𝓤 H A R.the-row) r (u ∷ []) (λ is.
@@ -181,10 +188,13 @@ module _ {M : Type 1} (𝓤 : URA M) (H : Heap 𝓤) (A : Atoms 𝓤) (W : Given
         rewrite ! 0 (λ (us : List Val). ‵ (R.the-row .own r us)) (LL.tells R.the-type R′.the-laws r (u ∷ []) is) refl $
         rewrite ! 11 (λ (x : Val). ‵ (fat fullShare R′.mir l₂ 0 x)) (ap only (LL.tells R.the-type R′.the-laws r (u ∷ []) is)) refl $
         assigns ! (of-opd ! (load ! (from ! (fld ! refl (stop !))) (look-in ! 13 (sub ! 0 refl (whole !))))) (from ! (stop !)) (init ! 5 refl (tt, wt .1 .0)) $
-        assigns ! (agg ! (and-then ! (load ! (from ! (stop !)) (look ! 5 refl)) (and-then ! (load ! (from ! (fld ! refl (stop !))) (look-in ! 11 (sub ! 1 refl (whole !)))) (no-more !)))) (from ! (stop !)) (init ! 3 refl (typed-reader r is g)) $
-        assigns ! (agg ! (and-then ! (load ! (from ! (stop !)) (look ! 3 refl)) (and-then ! (load ! (from ! (fld ! refl (stop !))) (look-in ! 11 (sub ! 0 refl (whole !)))) (no-more !)))) (from ! (stop !)) (init ! 15 refl (typed r is g)) $
+        assigns ! (agg ! (and-then ! (load ! (from ! (stop !)) (look ! 5 refl)) (and-then ! (load ! (from ! (fld ! refl (stop !))) (look-in ! 11 (sub ! 1 refl
+        (whole !)))) (no-more !)))) (from ! (stop !)) (init ! 3 refl (typed-reader r is g)) $
+        assigns ! (agg ! (and-then ! (load ! (from ! (stop !)) (look ! 3 refl)) (and-then ! (load ! (from ! (fld ! refl (stop !))) (look-in ! 11 (sub ! 0 refl
+        (whole !)))) (no-more !)))) (from ! (stop !)) (init ! 15 refl (typed r is g)) $
         returns ! (look ! 15 refl) $ forget ! 3 refl $ forget ! 5 refl $ forget ! 7 refl $ forget ! 9 refl $ forget ! 11 refl $ forget ! 13 refl $ forget ! 15 refl $
-        move ! (15 ∷ 16 ∷ []) $ free1 ! $ move ! (13 ∷ 14 ∷ []) $ free1 ! $ move ! (11 ∷ 12 ∷ []) $ free1 ! $ move ! (9 ∷ 10 ∷ []) $ free1 ! $ move ! (7 ∷ 8 ∷ []) $ free1 ! $ move ! (5 ∷ 6 ∷ []) $ free1 ! $ move ! (3 ∷ 4 ∷ []) $ free1 ! $ free0 ! $ by ! (exits r e))))))))))))
+        move ! (15 ∷ 16 ∷ []) $ free1 ! $ move ! (13 ∷ 14 ∷ []) $ free1 ! $ move ! (11 ∷ 12 ∷ []) $ free1 ! $ move ! (9 ∷ 10 ∷ []) $ free1 ! $ move ! (7 ∷ 8 ∷ []) $
+        free1 ! $ move ! (5 ∷ 6 ∷ []) $ free1 ! $ move ! (3 ∷ 4 ∷ []) $ free1 ! $ free0 ! $ by ! (exits r e))))))))))))
       where
         -- the structs that are made have their types
         is-after : (r : Stepped) (u : Val) → Is R.the-row r (u ∷ []) → Is (B (κ, tt)) d (mach ∷ []) → Is (B (κ, tt)) (after r) (LL.val D L (after r) ∷ [])
@@ -193,20 +203,29 @@ module _ {M : Type 1} (𝓤 : URA M) (H : Heap 𝓤) (A : Atoms 𝓤) (W : Given
         typed-reader : (r : Stepped) {u : Val} → Is R.the-row r (u ∷ []) → Is (B (κ, tt)) d (mach ∷ []) → Holds (hasTy (T′.mir erased) (LL.val D L (after r))) × WT (LL.val D L (after r))
         typed-reader r {u} is g = LL.lawful (T.the-type αᵉ) (T′.the-laws αᵉ) 𝓤 H A W .typed (after r) _ (is-after r u is g) .0
 
-        typed : (r : Stepped) {u : Val} → Is R.the-row r (u ∷ []) → Is (B (κ, tt)) d (mach ∷ []) → Holds (hasTy (F′.mir (named 0)) (LL.val (F.the-type α) (F′.the-laws α) (made r))) × WT (LL.val (F.the-type α) (F′.the-laws α) (made r))
+        typed : (r : Stepped) {u : Val} → Is R.the-row r (u ∷ []) → Is (B (κ, tt)) d (mach ∷ [])
+            → Holds (hasTy (F′.mir (named 0)) (LL.val (F.the-type α) (F′.the-laws α) (made r))) × WT (LL.val (F.the-type α) (F′.the-laws α) (made r))
         typed r {u} is g =
-            LL.lawful (F.the-type α) (F′.the-laws α) 𝓤 H A W .typed (made r) _ (LL.owes (F.the-type α) (F′.the-laws α) (made r) (is-after r u is g, (LL.owed R.the-type R′.the-laws r (u ∷ []) is .0, tt))) .0
+            LL.lawful (F.the-type α) (F′.the-laws α) 𝓤 H A W .typed (made r) _ (LL.owes (F.the-type α) (F′.the-laws α) (made r) (
+              is-after r u is g,
+              (LL.owed R.the-type R′.the-laws r (u ∷ []) is .0, tt),
+            )) .0
 
 module _ {M : Type 1} (𝓤 : URA M) (H : Heap 𝓤) (A : Atoms 𝓤) (W : Given 𝓤 H A) (mem : Memory → SProp 𝓤) (run : Routine → Fun 𝓤) where
   next-walks : (C : Calls 𝓤 H) (Λ : Loops 𝓤 H) → FmC 𝓤 H (W .laws) C → Triple 𝓤 (C #store·step) (StepC 𝓤 H A mem run)
       → Walks 𝓤 H A next.ended stayed (WpFn 𝓤 H C Λ code.function) (next.clauses 𝓤 H A mem run)
-  next-walks C Λ fm known = walked 𝓤 H A next.ended stayed (next.clauses 𝓤 H A mem run) (WpFn 𝓤 H C Λ code.function) (λ κs. (LL.vals (T.the-type (namedLft 1 0 tt κs)) (T′.the-laws (namedLft 1 0 tt κs)), tt)) (λ κs. (LL.tells (T.the-type (namedLft 1 0 tt κs)) (T′.the-laws (namedLft 1 0 tt κs)), tt))
+  next-walks C Λ fm known = walked 𝓤 H A next.ended stayed (next.clauses 𝓤 H A mem run) (WpFn 𝓤 H C Λ code.function) (λ κs. (
+    LL.vals (T.the-type (namedLft 1 0 tt κs))
+        (T′.the-laws (namedLft 1 0 tt κs)),
+    tt,
+  )) (λ κs. (LL.tells (T.the-type (namedLft 1 0 tt κs)) (T′.the-laws (namedLft 1 0 tt κs)), tt))
       (λ κs qs bounds a g are. via 𝓤 _ (fst∗ 𝓤 _ (emp 𝓤)) (walk 𝓤 H A W mem run (κs .0) (qs .0) (a .0) C Λ fm known (are .0)))
 
 next-meets : {M : Type 1} (𝓤 : URA M) (H : Heap 𝓤) (A : Atoms 𝓤) (W : Given 𝓤 H A) (mem : Memory → SProp 𝓤) (run : Routine → Fun 𝓤) (𝓣 : Tables 𝓤 H)
     → Triple 𝓤 (𝓣 .C #store·step) (StepC 𝓤 H A mem run)
     → Meets 𝓤 H A next.signature (WpFn 𝓤 H (𝓣 .C) (𝓣 .Λ) code.function) (next.spec 𝓤 H A mem run)
-next-meets 𝓤 H A W mem run 𝓣 known-step = walk-meets 𝓤 H A next.ended stayed W (goes-none 𝓤 H A W 1 B yes (λ κs x f. refl), tt) (next.clauses 𝓤 H A mem run) (WpFn 𝓤 H (𝓣 .C) (𝓣 .Λ) code.function) (WpFn-mono 𝓤 H (W .laws) 𝓣 code.function)
+next-meets 𝓤 H A W mem run 𝓣 known-step = walk-meets 𝓤 H A next.ended stayed W (goes-none 𝓤 H A W 1 B yes (λ κs x f. refl), tt) (next.clauses 𝓤 H A mem run) (WpFn 𝓤 H
+    (𝓣 .C) (𝓣 .Λ) code.function) (WpFn-mono 𝓤 H (W .laws) 𝓣 code.function)
     (next-walks 𝓤 H A W mem run (𝓣 .C) (𝓣 .Λ) (fmOf 𝓤 H (W .laws) 𝓣) known-step)
 
 pub next-spec : {M : Type 1} → stated.statement M

@@ -93,10 +93,13 @@ module _ {M : Type 1} (𝓤 : URA M) (H : Heap 𝓤) (A : Atoms 𝓤) (W : Given
   said : (c : Place) → ent 𝓤 (ensured 𝓤 H A start.ended (start.clauses 𝓤 H A mem run) tt tt tt c) (fact 𝓤 (c ≡ startPlace))
   said c = exE 𝓤 _ (λ ws. snd∗ 𝓤 (sem 𝓤 H A (lasts start.ended tt tt ws)) (fact 𝓤 (c ≡ startPlace)))
 
-  exits : (c : Place) → c ≡ startPlace → ent 𝓤 (⋆ 𝓤 H A (‵ (S.the-row .own c (LL.val S.the-type S′.the-laws c ∷ [])) ∷ (‵ (flft κ q) ⊛ ‵ ftrue) ∷ ‵ (owns (ShrSlice (named 0) κ u8 ∷ []) (s, tt) at) ∷ [])) (Post (LL.val (T.the-type α) (T′.the-laws α) (made c)))
+  exits : (c : Place) → c ≡ startPlace
+      → ent 𝓤 (⋆ 𝓤 H A (‵ (S.the-row .own c (LL.val S.the-type S′.the-laws c ∷ [])) ∷ (‵ (flft κ q) ⊛ ‵ ftrue) ∷ ‵ (owns (ShrSlice (named 0) κ u8 ∷ [])
+      (s, tt) at) ∷ [])) (Post (LL.val (T.the-type α) (T′.the-laws α) (made c)))
   exits c e =
       qed W (‵ (S.the-row .own c (LL.val S.the-type S′.the-laws c ∷ [])) ∷ (‵ (flft κ q) ⊛ ‵ ftrue) ∷ ‵ (owns (ShrSlice (named 0) κ u8 ∷ []) (s, tt) at) ∷ []) ∵
-      suffices ! _ (ends-at 𝓤 H A opened.ended stayed (opened.clauses 𝓤 H A mem run) W (((κ, tt), (q, tt), tt, (s, tt), at), tt) (LL.val (T.the-type α) (T′.the-laws α) (made c)) (made c) (tt, tt) (tt, tt)) $ says ! (refl, e) $
+      suffices ! _ (ends-at 𝓤 H A opened.ended stayed (opened.clauses 𝓤 H A mem run) W (((κ, tt), (q, tt), tt, (s, tt), at), tt) (LL.val (T.the-type α) (T′.the-laws α)
+      (made c)) (made c) (tt, tt) (tt, tt)) $ says ! (refl, e) $
       move ! (1 ∷ []) $ frame ! $ move ! (1 ∷ []) $ fsplit ! $ use1 W (‵ Own ⊛ ‵ Own) (shr-slice-copy 𝓤 H A W (named 0) κ u8 .twice s (v ∷ [])) $ split ! $ move ! (0 ∷ 2 ∷ []) $ fjoin ! $ frame ! $
       -- [what bytes owns; what the place owns]
       nothing ! $ move ! (2 ∷ 0 ∷ []) $ fjoin ! $ move ! (1 ∷ 0 ∷ []) $ fjoin ! $ by ! (own-shut 𝓤 H A W (T.the-type α) (T′.the-laws α) (s, (c, tt)))
@@ -108,7 +111,8 @@ module _ {M : Type 1} (𝓤 : URA M) (H : Heap 𝓤) (A : Atoms 𝓤) (W : Given
         alloc1 ! (λ l₀. alloc1 ! (λ l₁. alloc1 ! (λ l₂. alloc0 ! $ params1 ! $ pass1 ! (init ! 2 refl (shr-slice-lawful 𝓤 H A W (named 0) κ u8 .typed s (v ∷ []) p .0)) $ pass0 ! $
         use0 W (raw (Start 𝓤 H A mem run .pre to)) asked $
         calls-at ! fm (Start 𝓤 H A mem run) known to (no-more !) (λ u.
-        use1 W (later (some (λ (c : Place). (‵ ftrue ⊛ ‵ (S.the-row .own c (u ∷ []))) ⊛ raw (ensured 𝓤 H A start.ended (start.clauses 𝓤 H A mem run) tt tt tt c)))) (id⊢ 𝓤 _) $ await ! tt $ pick ! (λ c.
+        use1 W (later (some (λ (c : Place). (‵ ftrue ⊛ ‵ (S.the-row .own c (u ∷ []))) ⊛ raw (ensured 𝓤 H A start.ended (start.clauses 𝓤 H A mem run) tt tt tt c))))
+        (id⊢ 𝓤 _) $ await ! tt $ pick ! (λ c.
         split ! $ move ! (1 ∷ []) $ use1 W (raw (fact 𝓤 (c ≡ startPlace))) (said c) $ heard ! (c ≡ startPlace) (λ e. split ! $ move ! (1 ∷ []) $
         -- [the place; nothing; room for _2; …; _1; …; room for _0; …; what there is at entry]
         peeks ! S.the-row (Is S.the-row) (shows 𝓤 H A S.the-row) c (u ∷ []) (λ is.
@@ -120,19 +124,23 @@ module _ {M : Type 1} (𝓤 : URA M) (H : Heap 𝓤) (A : Atoms 𝓤) (W : Given
         move ! (6 ∷ 7 ∷ []) $ free1 ! $ move ! (4 ∷ 5 ∷ []) $ free1 ! $ move ! (2 ∷ 3 ∷ []) $ free1 ! $ free0 ! $ keep ! (0 ∷ 2 ∷ []) $ by ! (exits c e))))))))
       where
         -- the struct that is made has its type
-        typed : (c : Place) {u : Val} → Is S.the-row c (u ∷ []) → Is (ShrSlice (named 0) κ u8) s (v ∷ []) → Holds (hasTy (T′.mir (named 0)) (LL.val (T.the-type α) (T′.the-laws α) (made c))) × WT (LL.val (T.the-type α) (T′.the-laws α) (made c))
+        typed : (c : Place) {u : Val} → Is S.the-row c (u ∷ []) → Is (ShrSlice (named 0) κ u8) s (v ∷ [])
+            → Holds (hasTy (T′.mir (named 0)) (LL.val (T.the-type α) (T′.the-laws α) (made c))) × WT (LL.val (T.the-type α) (T′.the-laws α) (made c))
         typed c {u} is p =
             LL.lawful (T.the-type α) (T′.the-laws α) 𝓤 H A W .typed (made c) _
             (LL.owes (T.the-type α) (T′.the-laws α) (made c) (p, (LL.owes S.the-type S′.the-laws c (LL.owed S.the-type S′.the-laws c (u ∷ []) is), tt))) .0
 
 module _ {M : Type 1} (𝓤 : URA M) (H : Heap 𝓤) (A : Atoms 𝓤) (W : Given 𝓤 H A) (mem : Memory → SProp 𝓤) (run : Routine → Fun 𝓤) where
-  opened-walks : (C : Calls 𝓤 H) (Λ : Loops 𝓤 H) → FmC 𝓤 H (W .laws) C → Triple 𝓤 (C #store·start) (Start 𝓤 H A mem run) → Walks 𝓤 H A opened.ended stayed (WpFn 𝓤 H C Λ code.function) (opened.clauses 𝓤 H A mem run)
+  opened-walks : (C : Calls 𝓤 H) (Λ : Loops 𝓤 H) → FmC 𝓤 H (W .laws) C → Triple 𝓤 (C #store·start) (Start 𝓤 H A mem run)
+      → Walks 𝓤 H A opened.ended stayed (WpFn 𝓤 H C Λ code.function) (opened.clauses 𝓤 H A mem run)
   opened-walks C Λ fm known = walked 𝓤 H A opened.ended stayed (opened.clauses 𝓤 H A mem run) (WpFn 𝓤 H C Λ code.function) (λ κs. (slice-vals, tt)) (λ κs. (shr-slice-tells (named 0) (κs .0) u8, tt))
       (λ κs qs bounds a g are. via 𝓤 _ (fst∗ 𝓤 _ (emp 𝓤)) (walk 𝓤 H A W mem run (κs .0) (qs .0) (a .0) C Λ fm known (are .0)))
 
-opened-meets : {M : Type 1} (𝓤 : URA M) (H : Heap 𝓤) (A : Atoms 𝓤) (W : Given 𝓤 H A) (mem : Memory → SProp 𝓤) (run : Routine → Fun 𝓤) (𝓣 : Tables 𝓤 H) → Triple 𝓤 (𝓣 .C #store·start) (Start 𝓤 H A mem run)
+opened-meets : {M : Type 1} (𝓤 : URA M) (H : Heap 𝓤) (A : Atoms 𝓤) (W : Given 𝓤 H A) (mem : Memory → SProp 𝓤) (run : Routine → Fun 𝓤) (𝓣 : Tables 𝓤 H)
+    → Triple 𝓤 (𝓣 .C #store·start) (Start 𝓤 H A mem run)
     → Meets 𝓤 H A opened.signature (WpFn 𝓤 H (𝓣 .C) (𝓣 .Λ) code.function) (opened.spec 𝓤 H A mem run)
-opened-meets 𝓤 H A W mem run 𝓣 known = walk-meets 𝓤 H A opened.ended stayed W (goes-none-slice 𝓤 H A W 1 (0 ∷ []) tt (plain (λ _. u8)) yes, tt) (opened.clauses 𝓤 H A mem run) (WpFn 𝓤 H (𝓣 .C) (𝓣 .Λ) code.function) (WpFn-mono 𝓤 H (W .laws) 𝓣 code.function)
+opened-meets 𝓤 H A W mem run 𝓣 known = walk-meets 𝓤 H A opened.ended stayed W (goes-none-slice 𝓤 H A W 1 (0 ∷ []) tt (plain (λ _. u8)) yes, tt)
+    (opened.clauses 𝓤 H A mem run) (WpFn 𝓤 H (𝓣 .C) (𝓣 .Λ) code.function) (WpFn-mono 𝓤 H (W .laws) 𝓣 code.function)
     (opened-walks 𝓤 H A W mem run (𝓣 .C) (𝓣 .Λ) (fmOf 𝓤 H (W .laws) 𝓣) known)
 
 pub open-reader-spec : {M : Type 1} → stated.statement M
