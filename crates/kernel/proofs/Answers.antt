@@ -1,6 +1,5 @@
 -- Two answers that meet a function's contract are equal: stated of the contract itself (`Post`), at any arguments.
 use mathlib.Core.Path.{_≡_, sym, _∙_}
-use mathlib.Core.Bool.{Bool}
 use lib.IntN.{ℤ}
 use contract.Lifetimes.{Lfts}
 use Rattle.sheet.specs.declared.Object.{Object}
@@ -11,7 +10,6 @@ use Rattle.sheet.specs.declared.Crossing.{Crossing}
 use Rattle.sheet.specs.AnswersLaws.{ends-one, signed-one, crossing-one}
 use Rattle.kernel.proofs.points.check_object.Reads as check-object
 use Rattle.kernel.proofs.points.check_point.Reads as check-point
-use Rattle.kernel.proofs.points.check_narrow.Reads as check-narrow
 use Rattle.kernel.proofs.ends.ends_of.Reads as ends-of
 use Rattle.kernel.proofs.signs.order_points.Reads as order-points
 use Rattle.kernel.proofs.signs.turn_points.Reads as turn-points
@@ -25,10 +23,6 @@ check-object-answer κs o r s p q = p ∙ sym q
 pub check-point-answer :
     (κs : Lfts 0) (a : Point) (r s : ℤ) → check-point.Post κs (a, tt) r (a, tt) → check-point.Post κs (a, tt) s (a, tt) → r ≡ s
 check-point-answer κs a r s p q = p ∙ sym q
-
-pub check-narrow-answer :
-    (κs : Lfts 0) (a : Point) (r s : Bool) → check-narrow.Post κs (a, tt) r (a, tt) → check-narrow.Post κs (a, tt) s (a, tt) → r ≡ s
-check-narrow-answer κs a r s p q = p ∙ sym q
 
 pub ends-of-answer :
     (κs : Lfts 0) (o : Object) (r s : Ends) → ends-of.Post κs (o, tt) r (o, tt) → ends-of.Post κs (o, tt) s (o, tt) → r ≡ s

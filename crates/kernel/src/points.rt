@@ -86,7 +86,7 @@ pub fn check_object(o: sheet::Object) -> i64
 }
 
 // Whether a point is fit for a turn.
-pub fn check_narrow(p: Point) -> bool
+pub(crate) fn check_narrow(p: Point) -> bool
     ensures { λ r. ⌜ r ≡ narrow p ⌝ }
 {
     is_narrow(p.mx, p.nx, p.my, p.ny, p.w)

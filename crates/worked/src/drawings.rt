@@ -1,7 +1,16 @@
 // Stored drawings: read, checked and written, with the lent cells shown. A cell that holds 7 has not been touched.
 use crate::say;
+use sheet::Object;
 
 const UNTOUCHED: i64 = 7;
+
+const UNTOUCHED_BYTE: u8 = 7;
+
+// The numbers of one object more than a sheet has.
+pub const TOO_MANY: usize = (Object::MOST + 1) * Object::WIDTH;
+
+// The bytes of as many sides as a sheet has: the count in two, and a kind and a number each.
+const FULL: usize = 2 + Object::MOST * 2;
 
 // The answer, and the six cells of a lent list after the call: room for one object, and one cell more.
 fn read(bytes: &[u8]) {
@@ -22,7 +31,7 @@ fn read(bytes: &[u8]) {
 
 // The answer, and four lent bytes after the call.
 fn write(list: &[i64]) {
-    let mut bytes = [7u8; 4];
+    let mut bytes = [UNTOUCHED_BYTE; 4];
     let written = store::write_drawing(list, &mut bytes);
     say::number(written.refusal);
     say::count(written.length as u64);
@@ -63,7 +72,7 @@ pub fn reading() {
 
 // 512 objects are taken and 513 refused. Every byte after the count is a 4: the side 4, again and again.
 pub fn limits() {
-    let mut most = [4u8; 1026];
+    let mut most = [4u8; FULL];
     most[0] = 0x80;
     most[1] = 4;
     say::text(b"512 objects");
@@ -86,7 +95,7 @@ pub fn writing() {
     write(&[9, 0, 0, 0, 0]);
     say::text(b"write a segment in four bytes");
     write(&[1, 0, 0, 1, 1]);
-    let many = [4i64; 2565];
+    let many = [4i64; TOO_MANY];
     say::text(b"write 513 objects");
     write(&many);
 }

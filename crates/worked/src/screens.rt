@@ -1,4 +1,5 @@
 // Places and boxes on the screen. A float is said as its 64 bits, in hex.
+use crate::drawings::TOO_MANY;
 use crate::kernels::obj;
 use crate::kernels::pt;
 use crate::say;
@@ -11,13 +12,9 @@ use screen::extents::box_of;
 use screen::places::place_of;
 use sheet::Crossing;
 use sheet::Ends;
-use sheet::Object;
 use sheet::Point;
 
 const DIGITS: usize = 16;
-
-// The numbers of one object more than a sheet has.
-const TOO_MANY: usize = (Object::MOST + 1) * Object::WIDTH;
 
 // Bits are not to be had of what is no number, which alone differs from itself.
 fn float(x: f64) {
