@@ -6,22 +6,22 @@
 -- Assumes nothing.
 use mathlib.Core.Path.{_≡_, refl, _∙_}
 use mathlib.Core.Bool.{Bool, true, false, cond}
-use mathlib.Core.List.{List, _++_}
+use mathlib.Core.List.{List}
 use Prim.Native.Nat.{ℕ, _*_, _/_, _≤_}
 use native.Mathlib.Omega.{arith}
 use lib.Dec.{ltb}
 use lib.IntN.{ℤ, pos}
-use lib.ListN.{length, drop}
-use lib.Seq.{sets}
+use lib.ListN.{length}
 use mir.Syntax.{w64}
 use mir.Val.{SFits, ofZ}
 use borrow.Author.Tests.{ltb-false, le-ltb}
 use Rattle.whole.specs.Tests.{eq-eqZ, ne-eqZ, eq-left, out, out-is}
+use Rattle.sheet.specs.Lent.{filled, Wrote}
+use Rattle.sheet.specs.LentLaws.{wrote-front}
 use Rattle.listing.specs.declared.Listed.{Listed}
 use Rattle.listing.specs.Rows.{rowWidth}
-use Rattle.listing.specs.Listing.{listed, filled}
+use Rattle.listing.specs.Listing.{listed}
 use Rattle.listing.specs.ListingLaws.{lacking}
-use Rattle.listing.proofs.Sets.{sets-front}
 
 -- the answer a, and the lent list afterwards
 abbrev pub Answer : ℤ → ℕ → List ℤ → List ℤ → Listed → List ℤ → Type 0
@@ -57,13 +57,10 @@ module _ (n : ℕ) (rows lent : List ℤ) where
         go false q l = absurd (d l)
 
     pub done : r ≡ pos 0 → length rows ≡ n * rowWidth → length rows ≤ length lent
-        → (m : ℕ) → m ≡ length rows → (after : List ℤ) → after ≡ sets lent 0 rows
+        → {m : ℕ} {after : List ℤ} → Wrote lent after 0 m rows
         → Answer r n rows lent (record { refusal = pos 0; rows = m / rowWidth; length = m }) after
-    done e h k m l after a =
-        let full : m ≡ n * rowWidth = omega arith in
+    done e h k {m} {after} w =
+        let full : m ≡ n * rowWidth = omega (arith, w .place) in
         let count : m / rowWidth ≡ n = omega arith in
         let q = le-ltb (length lent) (n * rowWidth) (omega arith) in
-        let same : _≡_ {A = Listed} (record { refusal = pos 0; rows = m / rowWidth; length = m }) (record { refusal = pos 0; rows = n; length = n * rowWidth }) =
-        λ j. record { refusal = pos 0; rows = count j; length = full j } in
-        let front : rows ++ drop (length rows) lent ≡ filled r rows lent = simp (eq-eqZ e, h, q) in
-        (simp (eq-eqZ e, q) same, a ∙ sets-front lent rows k ∙ front)
+        (simp (eq-eqZ e, q) (λ j. record { refusal = pos 0; rows = count j; length = full j }), wrote-front w k ∙ simp (eq-eqZ e, h, q))

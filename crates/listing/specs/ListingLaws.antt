@@ -2,7 +2,7 @@
 --   all-refusal, one-refusal    refusal 12 is never given, so the code makes no test of it
 --   lacking, lacks-none, lacks  the length that is needed where the lent list is too short, else 0
 -- Assumes nothing.
-use mathlib.Core.Path.{_≡_, refl, sym, ap, _∙_}
+use mathlib.Core.Path.{_≡_, refl, sym, _∙_}
 use mathlib.Core.Bool.{Bool, true, false, cond}
 use mathlib.Core.List.{List}
 use Prim.Native.Nat.{ℕ, _*_, _≤_, _<_}

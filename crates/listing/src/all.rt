@@ -6,7 +6,7 @@ use sheet::Object;
 ghost use mathlib.Core.Path.{_≡_};
 ghost use Prim.Native.Nat.{_≤_};
 ghost use lib.ListN.{length};
-ghost use lib.Seq.{sets};
+ghost use Rattle.sheet.specs.Lent.{Wrote};
 ghost use Rattle.sheet.specs.ListsLaws.{Listable};
 ghost use Rattle.listing.specs.Rows.{rowsOf, sharing};
 ghost use Rattle.listing.specs.ListingLaws.{lacking};
@@ -15,8 +15,7 @@ ghost use Rattle.listing.specs.ListingLaws.{lacking};
 pub fn put_rows(list: &[i64], out: &mut [i64]) -> usize
     requires { ⌜ Listable (now list) ⌝ }
     requires { ⌜ length (rowsOf (now list)) ≤ length (now out) ⌝ }
-    ensures { λ r. ⌜ r ≡ length (rowsOf (now (list .entry))) ⌝ }
-    ensures { λ r. ⌜ now (out .exit) ≡ sets (now (out .entry)) 0 (rowsOf (now (list .entry))) ⌝ }
+    ensures { λ r. ⌜ Wrote (now (out .entry)) (now (out .exit)) 0 r (rowsOf (now (list .entry))) ⌝ }
 {
     let n = list.len() / Object::WIDTH;
     let mut next = 0;

@@ -13,8 +13,9 @@ ghost use mathlib.Core.Path.{_≡_};
 ghost use Prim.Native.Nat.{_/_};
 ghost use lib.IntN.{pos};
 ghost use lib.ListN.{length};
+ghost use Rattle.sheet.specs.Lent.{filled};
 ghost use Rattle.listing.specs.Rows.{rowWidth, rowsWith, rowsOf, sharingWith, sharing};
-ghost use Rattle.listing.specs.Listing.{allRefusal, oneRefusal, listed, filled};
+ghost use Rattle.listing.specs.Listing.{allRefusal, oneRefusal, listed};
 
 // The numbers of a row.
 pub const ROW_WIDTH: usize = 8;

@@ -8,10 +8,10 @@ ghost use mathlib.Core.List.{[], _∷_};
 ghost use Prim.Native.Nat.{_+_, _<_, _≤_};
 ghost use lib.IntN.{pos};
 ghost use lib.ListN.{length};
-ghost use lib.Seq.{sets};
 ghost use Rattle.sheet.specs.Limits.{most};
 ghost use Rattle.sheet.specs.Refusal.{Accepted};
 ghost use Rattle.sheet.specs.Crossing.{crossingOf};
+ghost use Rattle.sheet.specs.Lent.{Wrote};
 ghost use Rattle.sheet.specs.Lists.{countOf, objectAt};
 ghost use Rattle.sheet.specs.ListsLaws.{Listable};
 ghost use Rattle.listing.specs.Rows.{rowWidth, rowOf, rowsWith, sharingWith};
@@ -45,8 +45,7 @@ fn write_row(
 ) -> usize
     requires { ⌜ at + rowWidth ≤ length (now out) ⌝ }
     requires { ⌜ (i < most) × (j < most) ⌝ }
-    ensures { λ r. ⌜ r ≡ at + rowWidth ⌝ }
-    ensures { λ r. ⌜ now (out .exit) ≡ sets (now (out .entry)) at (pos i ∷ pos j ∷ how ∷ mx ∷ nx ∷ my ∷ ny ∷ w ∷ []) ⌝ }
+    ensures { λ r. ⌜ Wrote (now (out .entry)) (now (out .exit)) at r (pos i ∷ pos j ∷ how ∷ mx ∷ nx ∷ my ∷ ny ∷ w ∷ []) ⌝ }
 {
     let first = i as i64;
     let second = j as i64;
@@ -66,8 +65,7 @@ fn write_row(
 fn put_row(a: Object, list: &[i64], i: usize, j: usize, out: &mut [i64], at: usize) -> usize
     requires { ⌜ Pair (now list) i j × (a ≡ objectAt (now list) i) ⌝ }
     requires { ⌜ at + length (rowOf (now list) i j) ≤ length (now out) ⌝ }
-    ensures { λ r. ⌜ r ≡ at + length (rowOf (now (list .entry)) i j) ⌝ }
-    ensures { λ r. ⌜ now (out .exit) ≡ sets (now (out .entry)) at (rowOf (now (list .entry)) i j) ⌝ }
+    ensures { λ r. ⌜ Wrote (now (out .entry)) (now (out .exit)) at r (rowOf (now (list .entry)) i j) ⌝ }
 {
     match meet(a, list, j) {
         Crossing::Once(p) => {
@@ -89,8 +87,7 @@ fn put_row(a: Object, list: &[i64], i: usize, j: usize, out: &mut [i64], at: usi
 pub fn put_rows_with(list: &[i64], i: usize, out: &mut [i64], at: usize) -> usize
     requires { ⌜ Listable (now list) × (i < countOf (now list)) ⌝ }
     requires { ⌜ at + length (rowsWith (now list) i) ≤ length (now out) ⌝ }
-    ensures { λ r. ⌜ r ≡ at + length (rowsWith (now (list .entry)) i) ⌝ }
-    ensures { λ r. ⌜ now (out .exit) ≡ sets (now (out .entry)) at (rowsWith (now (list .entry)) i) ⌝ }
+    ensures { λ r. ⌜ Wrote (now (out .entry)) (now (out .exit)) at r (rowsWith (now (list .entry)) i) ⌝ }
 {
     let n = list.len() / Object::WIDTH;
     let a = object_at(list, i);

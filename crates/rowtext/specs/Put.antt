@@ -2,13 +2,14 @@
 use Prim.Native.Nat.{ℕ, _+_, _*_, _-_, _%_, _^_, _<_, min}
 use mathlib.Core.Path.{_≡_}
 use mathlib.Core.Bool.{cond}
-use mathlib.Core.List.{List, _++_}
-use lib.Dec.{ltb, eqb}
+use mathlib.Core.List.{List}
+use lib.Dec.{eqb}
 use lib.IntN.{ℤ, pos}
-use lib.ListN.{length, drop}
+use lib.ListN.{length}
 use lib.Seq.{sets}
+use Rattle.sheet.specs.Lent.{roomRefusal, lengthGiven}
 use Rattle.rowtext.specs.declared.Put.{Put}
-use Rattle.rowtext.specs.Text.{width, rowsText}
+use Rattle.rowtext.specs.Text.{width}
 
 -- the largest length that a call can answer
 abbrev pub largest : ℕ
@@ -18,21 +19,13 @@ largest = 2 ^ 64 - 1
 unfoldable pub said : ℕ → ℕ
 said n = min n largest
 
--- "10: the lent .. byte buffer is too short for the result", with the length needed; else 0 and the length of the text
-abbrev pub putAnswer : List ℕ → List ℕ → Put
-putAnswer text d =
-    cond (ltb (length d) (length text)) (record { refusal = pos 10; length = said (length text) }) (record { refusal = pos 0; length = length text })
-
--- "A refused call .. changes no lent buffer. An accepted one fills from the front and leaves the rest unchanged."
-abbrev pub putInto : List ℕ → List ℕ → List ℕ
-putInto text d = cond (ltb (length d) (length text)) d (text ++ drop (length text) d)
-
 -- "14: list length not a multiple of" the width of a row
-unfoldable pub rowsAnswer : List ℤ → List ℕ → Put
-rowsAnswer l d = cond (eqb (length l % width) 0) (putAnswer (rowsText l) d) (record { refusal = pos 14; length = 0 })
+abbrev pub rowsRefusal : List ℤ → ℤ
+rowsRefusal l = cond (eqb (length l % width) 0) (pos 0) (pos 14)
 
-unfoldable pub rowsInto : List ℤ → List ℕ → List ℕ
-rowsInto l d = cond (eqb (length l % width) 0) (putInto (rowsText l) d) d
+-- what putting a text into lent bytes answers, where n is the refusal before 10; what it leaves there is `filled` (sheet/specs/Lent)
+abbrev pub putAnswer : ℤ → List ℕ → List ℕ → Put
+putAnswer n text lent = record { refusal = roomRefusal n (length text) (length lent); length = said (lengthGiven n (length text)) }
 
 -- ---- how long rows and lines can be
 

@@ -1,11 +1,11 @@
 -- Laws of what a call answers and leaves. To cite:
 --   put-short    too few bytes: 10 and the length needed, and every byte as it was
 --   put-done     enough, and the text was written from place 0 on: 0 and the place after it
---   no-rows, rows-say   what a list that is no list of rows answers, and one that is
+--   no-rows, rows-taken   a list that is no list of rows is refused, and one that is is not
 --   line-short, count-short   how long a line can be, and a count in it (a refusal's number: signed-short)
 --   line-said, rows-said   the length needed is answered as it is: of a line, and of a list of fewer than 2^59 numbers
 -- Assumes nothing.
-use mathlib.Core.Path.{_≡_, _∙_, ap}
+use mathlib.Core.Path.{_≡_, sym, _∙_, ap}
 use mathlib.Core.List.{List}
 use Prim.Native.Nat.{ℕ, _%_, _^_, _≤_, _<_}
 use native.Mathlib.Nat.{zero-add}
@@ -13,50 +13,52 @@ use native.Mathlib.Omega.{arith}
 use lib.IntN.{ℤ, pos}
 use lib.ListN.{length, length-append}
 use borrow.Author.Tests.{lt-ltb, le-ltb, eq-eqb, ne-eqb}
+use Rattle.whole.specs.Tests.{eq-eqZ}
+use Rattle.sheet.specs.Lent.{filled}
 use Rattle.rowtext.specs.declared.Put.{Put}
 use Rattle.rowtext.specs.Text.{signed, width, rowsOf, rowsText, countLine}
 use Rattle.rowtext.specs.TextLaws.{Fit, signed-pos, digits-short, rows-short}
-use Rattle.rowtext.specs.Put.{said, numberMost, lineMost, putAnswer, putInto, Wrote, rowsAnswer, rowsInto}
+use Rattle.rowtext.specs.Put.{said, numberMost, lineMost, rowsRefusal, putAnswer, Wrote}
 use Rattle.rowtext.specs.WroteLaws.{said-is, said-no-more, Saying, whole, cut, saying, wrote-front}
 
--- an answer, and what is in the bytes then
-pub record Says (text d : List ℕ) (r : Put) (e : List ℕ) : Type 0 where
-  pub answer : r ≡ putAnswer text d
-  pub bytes : e ≡ putInto text d
+-- an answer, and what is in the bytes then; n is the refusal before 10
+pub record Says (n : ℤ) (text d : List ℕ) (r : Put) (e : List ℕ) : Type 0 where
+  pub answer : r ≡ putAnswer n text d
+  pub bytes : e ≡ filled n text d
 
 -- what was put into no bytes, or into any others, tells the length
-module _ {text other left : List ℕ} {n : ℕ} (counted : Wrote other left 0 n text) where
-  length-is : n ≡ said (length text)
-  length-is = counted .place ∙ ap said (zero-add (length text))
+length-is : {d e text : List ℕ} {n : ℕ} → Wrote d e 0 n text → n ≡ said (length text)
+length-is {d} {e} {text} w = w .place ∙ ap said (zero-add (length text))
 
-  pub put-short : (d : List ℕ) → length d < n → Says text d (record { refusal = pos 10; length = n }) d
+module _ {n : ℤ} {text other left : List ℕ} {size : ℕ} (e : n ≡ pos 0) (counted : Wrote other left 0 size text) where
+  pub put-short : (d : List ℕ) → length d < size → Says n text d (record { refusal = pos 10; length = size }) d
   put-short d h =
-      let short = lt-ltb (length d) (length text) (omega (arith, length-is, said-no-more (length text))) in
-      record { answer = simp (short, length-is); bytes = simp short }
+      let short = lt-ltb (length d) (length text) (omega (arith, length-is counted, said-no-more (length text))) in
+      record { answer = simp (eq-eqZ e, short, length-is counted); bytes = simp (eq-eqZ e, short) }
 
-  pub put-done : {d e : List ℕ} {next : ℕ} → n ≤ length d → Wrote d e 0 next text → Says text d (record { refusal = pos 0; length = next }) e
-  put-done {d} {e} {next} h w =
+  pub put-done : {d after : List ℕ} {next : ℕ} → size ≤ length d → Wrote d after 0 next text
+      → Says n text d (record { refusal = pos 0; length = next }) after
+  put-done {d} {after} {next} h w =
       let enough = le-ltb (length d) (length text) fits in
-      let place : next ≡ length text = w .place ∙ ap said (zero-add (length text)) ∙ said-is (omega (arith, fits, w .lent)) in
-      record { answer = simp (enough, place); bytes = simp enough (wrote-front w fits) }
+      record { answer = simp (eq-eqZ e, enough, length-is w); bytes = simp (eq-eqZ e, enough) (wrote-front w fits) }
     where
       go : Saying (length text) → length text ≤ length d
-      go (whole m q) = omega (arith, length-is)
-      go (cut m q) = absurd (omega (arith, length-is, w .lent))
+      go (whole m q) = omega (arith, length-is counted)
+      go (cut m q) = absurd (omega (arith, length-is counted, w .lent))
 
       fits : length text ≤ length d
       fits = go (saying (length text))
 
 -- ---- rows
 
-module _ (l : List ℤ) (d : List ℕ) where
-  pub no-rows : (length l % width ≡ 0 → ⊥) → (_≡_ {A = Put} (record { refusal = pos 14; length = 0 }) (rowsAnswer l d)) × (d ≡ rowsInto l d)
-  unfolding rowsAnswer rowsInto
-  no-rows n = (simp (ne-eqb (length l % width) 0 n), simp (ne-eqb (length l % width) 0 n))
+module _ (l : List ℤ) where
+  pub no-rows : (d : List ℕ) → (length l % width ≡ 0 → ⊥) → Says (rowsRefusal l) (rowsText l) d (record { refusal = pos 14; length = 0 }) d
+  no-rows d n =
+      let z = ne-eqb (length l % width) 0 n in
+      record { answer = simp z (ap (λ (k : ℕ). record { refusal = pos 14; length = k }) (sym (said-is (omega arith)))); bytes = simp z }
 
-  pub rows-say : {r : Put} {e : List ℕ} → length l % width ≡ 0 → Says (rowsText l) d r e → (r ≡ rowsAnswer l d) × (e ≡ rowsInto l d)
-  unfolding rowsAnswer rowsInto
-  rows-say z s = (simp (eq-eqb (length l % width) 0 z) (s .answer), simp (eq-eqb (length l % width) 0 z) (s .bytes))
+  pub rows-taken : length l % width ≡ 0 → rowsRefusal l ≡ pos 0
+  rows-taken z = simp (eq-eqb (length l % width) 0 z)
 
 -- ---- the length needed is answered as it is
 

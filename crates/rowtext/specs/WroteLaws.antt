@@ -15,8 +15,9 @@ use native.Mathlib.Nat.{add-zero, min-le-left, min-eq-left, min-eq-right}
 use native.Mathlib.Omega.{arith}
 use lib.Dec.{ltb}
 use lib.ListN.{length, drop, set, length-append}
-use lib.Seq.{sets, length-sets, sets-eq}
+use lib.Seq.{sets, length-sets}
 use borrow.Author.Tests.{ltb-true, ltb-false}
+use Rattle.sheet.specs.LentLaws.{sets-two, sets-front}
 use Rattle.rowtext.specs.Put.{largest, said, Wrote}
 
 pub said-is : {n : ℕ} → n ≤ largest → said n ≡ n
@@ -59,22 +60,17 @@ sets-past : (d s : List ℕ) (i : ℕ) → length d ≤ i → sets d i s ≡ d
 sets-past d [] i h = refl
 sets-past d (x ∷ s) i h = ap (λ (l : List ℕ). sets l (suc i) s) (set-past d i x h) ∙ sets-past d s (suc i) (omega arith)
 
-sets-more : (d s t : List ℕ) (i : ℕ) → sets (sets d i s) (i + length s) t ≡ sets d i (s ++ t)
-sets-more d [] t i = ap (λ (k : ℕ). sets d k t) (omega arith)
-sets-more d (x ∷ s) t i =
-    ap (λ (k : ℕ). sets (sets (set d i x) (suc i) s) k t) (omega arith) ∙ sets-more (set d i x) s t (suc i)
-
 -- a place that is too large to be answered is behind the lent bytes, as the largest is
 sets-said : (d s t : List ℕ) (i : ℕ) → length d < largest → sets (sets d i s) (said (i + length s)) t ≡ sets d i (s ++ t)
 sets-said d s t i h = go (saying (i + length s))
   where
     go : Saying (i + length s) → sets (sets d i s) (said (i + length s)) t ≡ sets d i (s ++ t)
-    go (whole m e) = ap (λ (k : ℕ). sets (sets d i s) k t) e ∙ sets-more d s t i
+    go (whole m e) = ap (λ (k : ℕ). sets (sets d i s) k t) e ∙ sets-two s t d i
     go (cut m e) =
         ap (λ (k : ℕ). sets (sets d i s) k t) e
         ∙ sets-past (sets d i s) t largest (omega (arith, length-sets d i s))
         ∙ sym (sets-past (sets d i s) t (i + length s) (omega (arith, length-sets d i s)))
-        ∙ sets-more d s t i
+        ∙ sets-two s t d i
 
 pub wrote-none : {d : List ℕ} {at : ℕ} → length d < largest → at ≤ largest → Wrote d d at at []
 wrote-none {d} {at} h m = record { bytes = refl; place = sym (ap said (add-zero at) ∙ said-is m); lent = h }
@@ -93,9 +89,7 @@ wrote-more {d} {e} {f} {at} {next} {end} {s} {t} w v =
     }
 
 pub wrote-front : {d e : List ℕ} {next : ℕ} {s : List ℕ} → Wrote d e 0 next s → length s ≤ length d → e ≡ s ++ drop (length s) d
-wrote-front {d} {e} {next} {s} w h =
-    let front : 0 + length s ≡ length s = omega arith in
-    w .bytes ∙ sets-eq s d 0 (omega arith) ∙ ap (λ (k : ℕ). s ++ drop k d) front
+wrote-front {d} {e} {next} {s} w h = w .bytes ∙ sets-front s d h
 
 pub wrote-as : {d e : List ℕ} {at next : ℕ} {s t : List ℕ} → Wrote d e at next s → s ≡ t → Wrote d e at next t
 wrote-as {d} {e} {at} {next} w q = subst (Wrote d e at next) q w

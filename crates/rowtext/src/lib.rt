@@ -8,8 +8,9 @@ ghost use mathlib.Core.List.{[], _∷_, _++_};
 ghost use Prim.Native.Nat.{_+_, _*_, _≤_};
 ghost use lib.IntN.{pos};
 ghost use lib.ListN.{length, take, drop};
-ghost use Rattle.rowtext.specs.Text.{newline, objectsWord, rowsWord, refusedWord, digits, sized, signed, field, numbers, sharedText, rowText, rowsTo, width, countLine};
-ghost use Rattle.rowtext.specs.Put.{said, rowMost, lineMost, Wrote, putAnswer, putInto, rowsAnswer, rowsInto};
+ghost use Rattle.sheet.specs.Lent.{filled};
+ghost use Rattle.rowtext.specs.Text.{newline, objectsWord, rowsWord, refusedWord, digits, sized, signed, field, numbers, sharedText, rowText, rowsTo, rowsText, width, countLine};
+ghost use Rattle.rowtext.specs.Put.{said, rowMost, lineMost, Wrote, rowsRefusal, putAnswer};
 
 // 0 and the length of the text, or the number of the refusal. With 10 comes the length needed.
 pub struct Put {
@@ -149,8 +150,8 @@ fn put_all(list: &[i64], rows: usize, out: &mut [u8]) -> usize
 
 // The text of all rows of a list, WIDTH numbers a row. Refused with 14 where the list is no list of rows.
 pub fn put_rows(rows: &[i64], out: &mut [u8]) -> Put
-    ensures answer { λ r. ⌜ r ≡ rowsAnswer (now (rows .entry)) (now (out .entry)) ⌝ }
-    ensures bytes { λ r. ⌜ now (out .exit) ≡ rowsInto (now (rows .entry)) (now (out .entry)) ⌝ }
+    ensures answer { λ r. ⌜ r ≡ putAnswer (rowsRefusal (now (rows .entry))) (rowsText (now (rows .entry))) (now (out .entry)) ⌝ }
+    ensures bytes { λ r. ⌜ now (out .exit) ≡ filled (rowsRefusal (now (rows .entry))) (rowsText (now (rows .entry))) (now (out .entry)) ⌝ }
     ensures longest { λ r. do ⌜ (← ⟦ROW_MOST⟧ .entry) ≡ rowMost ⌝ }
 {
     let n = rows.len();
@@ -188,8 +189,8 @@ fn put_word(word: &[u8], below: bool, n: u64, out: &mut [u8]) -> usize
 
 // The line of a word and a number.
 fn put_line(word: &[u8], below: bool, n: u64, out: &mut [u8]) -> Put
-    ensures answer { λ r. ⌜ r ≡ putAnswer (now (word .entry) ++ sized below n ++ (newline ∷ [])) (now (out .entry)) ⌝ }
-    ensures bytes { λ r. ⌜ now (out .exit) ≡ putInto (now (word .entry) ++ sized below n ++ (newline ∷ [])) (now (out .entry)) ⌝ }
+    ensures answer { λ r. ⌜ r ≡ putAnswer (pos 0) (now (word .entry) ++ sized below n ++ (newline ∷ [])) (now (out .entry)) ⌝ }
+    ensures bytes { λ r. ⌜ now (out .exit) ≡ filled (pos 0) (now (word .entry) ++ sized below n ++ (newline ∷ [])) (now (out .entry)) ⌝ }
 {
     let mut none = [0u8; 0];
     let length = put_word(word, below, n, &mut none);
@@ -208,24 +209,24 @@ fn put_line(word: &[u8], below: bool, n: u64, out: &mut [u8]) -> Put
 
 // The first line of a listing: `objects` and the count.
 pub fn put_objects(n: u64, out: &mut [u8]) -> Put
-    ensures answer { λ r. ⌜ r ≡ putAnswer (countLine objectsWord (pos n)) (now (out .entry)) ⌝ }
-    ensures bytes { λ r. ⌜ now (out .exit) ≡ putInto (countLine objectsWord (pos n)) (now (out .entry)) ⌝ }
+    ensures answer { λ r. ⌜ r ≡ putAnswer (pos 0) (countLine objectsWord (pos n)) (now (out .entry)) ⌝ }
+    ensures bytes { λ r. ⌜ now (out .exit) ≡ filled (pos 0) (countLine objectsWord (pos n)) (now (out .entry)) ⌝ }
 {
     put_line(b"objects ", false, n, out)
 }
 
 // The last line of a listing: `rows` and the count.
 pub fn put_count(n: u64, out: &mut [u8]) -> Put
-    ensures answer { λ r. ⌜ r ≡ putAnswer (countLine rowsWord (pos n)) (now (out .entry)) ⌝ }
-    ensures bytes { λ r. ⌜ now (out .exit) ≡ putInto (countLine rowsWord (pos n)) (now (out .entry)) ⌝ }
+    ensures answer { λ r. ⌜ r ≡ putAnswer (pos 0) (countLine rowsWord (pos n)) (now (out .entry)) ⌝ }
+    ensures bytes { λ r. ⌜ now (out .exit) ≡ filled (pos 0) (countLine rowsWord (pos n)) (now (out .entry)) ⌝ }
 {
     put_line(b"rows ", false, n, out)
 }
 
 // The only line for refused input: `refused` and the number.
 pub fn put_refused(n: i64, out: &mut [u8]) -> Put
-    ensures answer { λ r. ⌜ r ≡ putAnswer (countLine refusedWord n) (now (out .entry)) ⌝ }
-    ensures bytes { λ r. ⌜ now (out .exit) ≡ putInto (countLine refusedWord n) (now (out .entry)) ⌝ }
+    ensures answer { λ r. ⌜ r ≡ putAnswer (pos 0) (countLine refusedWord n) (now (out .entry)) ⌝ }
+    ensures bytes { λ r. ⌜ now (out .exit) ≡ filled (pos 0) (countLine refusedWord n) (now (out .entry)) ⌝ }
     ensures longest { λ r. do ⌜ (← ⟦LINE_MOST⟧ .entry) ≡ lineMost ⌝ }
 {
     put_line(b"refused ", n < 0, size(n), out)

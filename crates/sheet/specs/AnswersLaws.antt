@@ -68,7 +68,7 @@ refused-next m f e z = or-next m (sym e ∙ eq-taken f (fits64 (w-pos 0) tt) z)
 
 -- ---- no two values say the same
 
-object-one : (a b : Object) → objectNumbers a ≡ objectNumbers b → a ≡ b
+pub object-one : (a b : Object) → objectNumbers a ≡ objectNumbers b → a ≡ b
 object-one a b e =
     let e1 : a .kind ≡ b .kind = cc in
     let e2 : a .px ≡ b .px = cc in

@@ -5,6 +5,7 @@ pub mod Points
 pub mod Ends
 pub mod Signs
 pub mod Lists
+pub mod Lent
 pub mod Crossing
 pub mod Answers
 pub mod AnswersLaws
@@ -20,3 +21,4 @@ pub mod AcceptsLaws
 pub mod OnLine
 pub mod CrossingLaws
 pub mod ListsLaws
+pub mod LentLaws

@@ -7,7 +7,6 @@ pub mod TellsLaws
 pub mod NumberLaws
 pub mod SureLaws
 pub mod ObjectsLaws
-pub mod FillLaws
 pub mod AnswersLaws
 pub mod WriteLaws
 pub mod ListLaws

@@ -1,5 +1,5 @@
 -- A list of objects, object by object. To cite:
---   objects-more, objects-bytes   what is written for one more object, and how many bytes at most
+--   objects-more, objects-none, objects-bytes   what is written for one more object, and for none; how many bytes at most
 --   drawing-put         the count at the front, and the objects behind it, are the drawing
 -- Assumes nothing.
 use mathlib.Core.Path.{_≡_, refl, ap, _∙_}
@@ -13,8 +13,8 @@ use Rattle.sheet.specs.declared.Object.{Object}
 use Rattle.sheet.specs.Lists.{width, countOf, objectFrom}
 use Rattle.sheet.specs.ListsLaws.{object-drop}
 use Rattle.store.specs.Stored.{writeNumber, writeShape, writeObject, writeObjects, writeDrawing}
-use Rattle.store.specs.Bounded.{Wrote}
-use Rattle.store.specs.FillLaws.{sets-two, sets-front}
+use Rattle.sheet.specs.Lent.{Wrote}
+use Rattle.sheet.specs.LentLaws.{sets-two, sets-front}
 use Rattle.store.specs.WriteLaws.{number-size, shape-size}
 
 module _ (k : ℕ) (l : List ℤ) (at : ℕ) (h : 0 < k) where
@@ -66,7 +66,7 @@ pub drawing-put :
 unfolding writeDrawing
 drawing-put l d {d′} {d″} {to} {size} w e long room =
     e
-    ∙ (λ i. sets (w .is i) (w .place i) (writeObjects (countOf l) l))
+    ∙ (λ i. sets (w .cells i) (w .place i) (writeObjects (countOf l) l))
     ∙ sets-two (writeNumber (countOf l)) (writeObjects (countOf l) l) d 0
     ∙ sets-front (writeDrawing l) d (omega (arith, long))
     ∙ ap (λ (k : ℕ). writeDrawing l ++ drop k d) long

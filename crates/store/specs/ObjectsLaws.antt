@@ -13,7 +13,7 @@ use lib.ListN.{length, drop}
 use lib.Seq.{drop-drop}
 use Rattle.sheet.specs.declared.Object.{Object}
 use Rattle.sheet.specs.Lists.{width}
-use Rattle.store.specs.Stored.{Drawing, Reading, got, no, refused, before, andThen, counted, readObject, readObjects, readCount, readDrawing}
+use Rattle.store.specs.Stored.{Reading, got, no, refused, before, andThen, counted, readObject, readObjects, readCount, readDrawing}
 use Rattle.store.specs.Tells.{Tells}
 use Rattle.store.specs.SureLaws.{Sure, sure-object}
 use Rattle.store.specs.SureLaws as sure

@@ -1,6 +1,5 @@
 -- "Above the plain functions stands a reader that holds the lent bytes and its place, and gives one object per call." Definitions alone;
--- what
--- calling it again and again gives is in ReaderLaws.
+-- what calling it again and again gives is in ReaderLaws.
 use mathlib.Core.Bool.{cond, true, false}
 use mathlib.Core.List.{List, [], _∷_}
 use Prim.Native.Nat.{ℕ, zero, suc, _*_, _-_}

@@ -6,7 +6,7 @@
 use mathlib.Core.Path.{_≡_, refl, sym, ap, _∙_}
 use mathlib.Core.Bool.{Bool, true, false, cond}
 use mathlib.Core.List.{List, _++_}
-use Prim.Native.Nat.{ℕ, zero, suc, _+_, _*_, _-_, _<_, _≤_}
+use Prim.Native.Nat.{ℕ, zero, suc, _+_, _*_, _<_, _≤_}
 use native.Mathlib.Omega.{arith}
 use borrow.Author.Tests.{lt-ltb, le-ltb, ltb-true, ltb-false}
 use lib.Dec.{ltb}
@@ -15,6 +15,7 @@ use lib.ListN.{length, drop, length-append, length-drop}
 use lib.Seq.{drop-drop, drop-at}
 use Rattle.sheet.specs.declared.Object.{Object}
 use Rattle.sheet.specs.Answers.{objectNumbers}
+use Rattle.sheet.specs.AnswersLaws.{object-one}
 use Rattle.sheet.specs.Lists.{width}
 use Rattle.sheet.specs.ListsLaws.{object-next}
 use Rattle.store.specs.declared.Place.{Place}
@@ -27,15 +28,6 @@ use Rattle.store.specs.SureLaws.{Sure, sure-object, sure-count}
 use Rattle.store.specs.SureLaws as sure
 use Rattle.store.specs.ObjectsLaws.{objects-end, objects-over}
 use Rattle.store.specs.StepLaws.{first-call}
-
-numbers-one : (a b : Object) → objectNumbers a ≡ objectNumbers b → a ≡ b
-numbers-one a b e =
-    let e1 : a .kind ≡ b .kind = cc in
-    let e2 : a .px ≡ b .px = cc in
-    let e3 : a .py ≡ b .py = cc in
-    let e4 : a .qx ≡ b .qx = cc in
-    let e5 : a .qy ≡ b .qy = cc in
-    λ i. record { kind = e1 i; px = e2 i; py = e3 i; qx = e4 i; qy = e5 i }
 
 -- ---- the items of a drawing
 
@@ -169,7 +161,7 @@ keeps bs p h = go (p .begun) h
 -- ---- no two items say the same
 
 pub item-one : (a b : Item) → itemSays a ≡ itemSays b → a ≡ b
-item-one (One o) (One p) e = let f : objectNumbers o ≡ objectNumbers p = cc in ap One (numbers-one o p f)
+item-one (One o) (One p) e = let f : objectNumbers o ≡ objectNumbers p = cc in ap One (object-one o p f)
 item-one (One o) End e = let z : _≡_ {A = ℕ} 0 1 = cc in absurd (omega arith)
 item-one (One o) (Refused n) e = let z : _≡_ {A = ℕ} 0 1 = cc in absurd (omega arith)
 item-one End (One p) e = let z : _≡_ {A = ℕ} 0 1 = cc in absurd (omega arith)

@@ -2,12 +2,11 @@
 --   number-in-one, number-in-two    the bytes of a number below 128, and of a larger one
 --   number-size, point-size, shape-size   how many bytes at most
 --   below-size, zigzag-below, zigzag-else, zigzag-small   what is stored for a coordinate, by its size
---   wrote-two, room-one, room-two, wrote-as   one piece behind the other
 --   accepted-bounded                an accepted object's numbers are small
 -- Assumes nothing.
-use mathlib.Core.Path.{_≡_, refl, sym, ap, subst, _∙_}
+use mathlib.Core.Path.{_≡_, refl, sym, ap, subst}
 use mathlib.Core.Bool.{Bool, true, false, cond}
-use mathlib.Core.List.{List, [], _∷_, _++_}
+use mathlib.Core.List.{[], _∷_, _++_}
 use Prim.Native.Nat.{ℕ, _+_, _*_, _-_, _/_, _%_, _<_, _≤_}
 use native.Mathlib.Omega.{arith}
 use borrow.Author.Tests.{lt-ltb, le-ltb, ltb-true, ltb-false}
@@ -15,15 +14,13 @@ use lib.Dec.{ltb, ltb→lt}
 use lib.IntN.{ℤ, pos, negsuc, natAbs}
 use lib.Signed.{_<ℤ_, _≤ℤ_}
 use lib.ListN.{length, length-append}
-use lib.Seq.{sets, length-sets}
 use Rattle.whole.specs.Tests.{eqZ}
 use Rattle.sheet.specs.declared.Object.{Object}
 use Rattle.sheet.specs.Figure.{Side, left, bottom, right, top}
 use Rattle.sheet.specs.Refusal.{objectRefusal}
 use Rattle.sheet.specs.RefusalLaws.{Proper, Taken, a-segment, a-ray, a-line, a-side, accepted-taken, sideNumber}
 use Rattle.store.specs.Stored.{writeGroups, writeNumber, zigzag, writePoint, writeShape}
-use Rattle.store.specs.Bounded.{Bounded, Wrote}
-use Rattle.store.specs.FillLaws.{sets-two}
+use Rattle.store.specs.Bounded.{Bounded}
 
 pub number-in-one : (n : ℕ) → n < 128 → writeNumber n ≡ n ∷ []
 unfolding writeGroups
@@ -69,26 +66,6 @@ zigzag-else (negsuc n) h = absurd (h .le)
 pub zigzag-small : (z : ℤ) → natAbs z ≤ 2000 → zigzag z ≤ 4000
 zigzag-small (pos n) h = omega arith
 zigzag-small (negsuc n) h = omega arith
-
--- ---- pieces
-
-pub room-one : (at room : ℕ) (b b′ : List ℕ) → at + length (b ++ b′) ≤ room → at + length b ≤ room
-room-one at room b b′ h = omega (arith, length-append b b′)
-
-module _ {d d′ : List ℕ} {at to : ℕ} {b : List ℕ} (w : Wrote d d′ at to b) where
-  pub room-two : (b′ : List ℕ) → at + length (b ++ b′) ≤ length d → to + length b′ ≤ length d′
-  room-two b′ h =
-      let e : length d′ ≡ length d = ap length (w .is) ∙ length-sets d at b in omega (arith, w .place, length-append b b′)
-
-  pub wrote-two : {d″ : List ℕ} {on : ℕ} {b′ : List ℕ} → Wrote d′ d″ to on b′ → Wrote d d″ at on (b ++ b′)
-  wrote-two {d″} {on} {b′} v =
-      record {
-        place = omega (arith, v .place, w .place, length-append b b′);
-        is = v .is ∙ (λ i. sets (w .is i) (w .place i) b′) ∙ sets-two b b′ d at;
-      }
-
-  pub wrote-as : {b′ : List ℕ} → b ≡ b′ → Wrote d d′ at to b′
-  wrote-as e = subst (Wrote d d′ at to) e w
 
 -- ---- accepted objects
 

@@ -6,10 +6,11 @@ ghost use Prim.Native.Nat.{_<_, _≤_, _+_};
 ghost use lib.IntN.{natAbs};
 ghost use lib.ListN.{length};
 ghost use lib.Seq.{sets};
+ghost use Rattle.sheet.specs.Lent.{Wrote};
 ghost use Rattle.sheet.specs.Lists.{width, countOf, objectFrom};
 ghost use Rattle.sheet.specs.ListsLaws.{Listable};
 ghost use Rattle.store.specs.Stored.{numberLimit, writeNumber, zigzag, writePoint, writeShape, writeObject, writeObjects};
-ghost use Rattle.store.specs.Bounded.{Small, Bounded, Wrote};
+ghost use Rattle.store.specs.Bounded.{Small, Bounded};
 
 // The object that stands at a place of a list.
 pub(crate) fn object_at(list: &[i64], at: usize) -> Object

@@ -11,13 +11,6 @@ use Rattle.listing.proofs.Cases.{refused, short, room, done}
 use borrow.Author.Needs.{needs}
 use Rattle.listing.proofs.list_all.Statement.{statement}
 use Rattle.listing.proofs.list_all.Tie as tie
-use Rattle.listing.proofs.list_all.Reads as reads
-use Rattle.listing.proofs.list_all.Lts as lts
-use Rattle.listing.proofs.accept.Reads as accept-reads
-use Rattle.listing.proofs.all.lacking_room.Reads as lacking-room-reads
-use Rattle.listing.proofs.all.put_rows.Reads as put-rows-reads
-use Rattle.sheet.proofs.lists.list_refusal.Reads as list-refusal-reads
-use Rattle.listing.proofs.refuse.Reads as refuse-reads
 
 -- the first check, and what is known where it found nothing
 checked : (c : tie.After-list-refusal) → c .list-refusal .result ≡ allRefusal (c .before .args .list .now)
@@ -85,7 +78,7 @@ returns-3 c =
     let w = d .before .put-rows in
     let fits = room (sharing l) (rowsOf l) (s .args .out .now) (length-rows l) (k .lacking-room .result) (k .lacking-room .ensures)
     (d .before .before .before .if2 .left) in
-    let x = done (sharing l) (rowsOf l) (s .args .out .now) (accepted (k .before)) (length-rows l) fits (w .result) (w .ensures .0) _ (w .ensures .1) in
+    let x = done (sharing l) (rowsOf l) (s .args .out .now) (accepted (k .before)) (length-rows l) fits (w .ensures) in
     (c .accept .ensures ∙ x .0, x .1)
 
 pub list-all-spec : {M : Type 1} → statement M

@@ -1,9 +1,7 @@
 use Prim.Native.Nat.{_<_}
 use mathlib.Core.Path.{_≡_, sym, _∙_}
 use native.Mathlib.Omega.{arith}
-use native.Mathlib.Nat.{zero-add}
 use lib.IntN.{pos}
-use lib.ListN.{length}
 use Rattle.whole.specs.Bound.{fits64, w-pos}
 use Rattle.whole.specs.Tests.{fits-ok, eq-taken}
 use Rattle.sheet.specs.AnswersLaws.{or-zero}
@@ -17,13 +15,6 @@ use Rattle.listing.proofs.Cases.{refused, short, room, done}
 use borrow.Author.Needs.{needs}
 use Rattle.listing.proofs.list_one.Statement.{statement}
 use Rattle.listing.proofs.list_one.Tie as tie
-use Rattle.listing.proofs.list_one.Reads as reads
-use Rattle.listing.proofs.list_one.Lts as lts
-use Rattle.listing.proofs.accept.Reads as accept-reads
-use Rattle.listing.proofs.objects.index_refusal.Reads as index-refusal-reads
-use Rattle.listing.proofs.refuse.Reads as refuse-reads
-use Rattle.listing.proofs.rows.lacking_with.Reads as lacking-with-reads
-use Rattle.listing.proofs.rows.put_rows_with.Reads as put-rows-with-reads
 
 -- the first check, and what is known where it found nothing
 checked : (c : tie.After-index-refusal) → c .index-refusal .result ≡ oneRefusal (c .before .args .list .now) (c .before .args .i)
@@ -104,8 +95,7 @@ returns-3 c =
     let h = length-rows-with l i (known e .1) in
     let fits = room (sharingWith l i) (rowsWith l i) (s .args .out .now) h (k .lacking-with .result) (k .lacking-with .ensures)
     (d .before .before .before .if2 .left) in
-    let x = done (sharingWith l i) (rowsWith l i) (s .args .out .now) (accepted e) h fits
-    (w .result) (w .ensures .0 ∙ zero-add (length (rowsWith l i))) _ (w .ensures .1) in
+    let x = done (sharingWith l i) (rowsWith l i) (s .args .out .now) (accepted e) h fits (w .ensures) in
     (c .accept .ensures ∙ x .0, x .1)
 
 pub list-one-spec : {M : Type 1} → statement M

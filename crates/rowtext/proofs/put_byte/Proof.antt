@@ -1,5 +1,5 @@
 -- `put_byte` meets its contract: at a place behind the lent bytes nothing is written, as the definition of `set` has it.
-use mathlib.Core.Path.{_≡_, sym, _∙_, ap}
+use mathlib.Core.Path.{_≡_, sym, _∙_}
 use mathlib.Core.Logic.{⊎-elim}
 use native.Mathlib.Omega.{arith}
 use lib.ListN.{set, length-set}

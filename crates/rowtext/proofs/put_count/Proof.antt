@@ -2,9 +2,11 @@
 use mathlib.Core.Path.{sym, ap, _∙_}
 use mathlib.Core.List.{List, [], _∷_, _++_}
 use Prim.Native.Nat.{ℕ}
+use lib.IntN.{pos}
 use Rattle.rowtext.specs.Text.{blank, newline, rowsWord}
 use Rattle.rowtext.specs.TextLaws.{signed-pos}
-use Rattle.rowtext.specs.Put.{putAnswer, putInto}
+use Rattle.sheet.specs.Lent.{filled}
+use Rattle.rowtext.specs.Put.{putAnswer}
 use borrow.Author.Needs.{needs}
 use Rattle.rowtext.proofs.put_count.Statement.{statement}
 use Rattle.rowtext.proofs.put_count.Tie as tie
@@ -24,8 +26,8 @@ returns c =
     let d = s .args .out .now in
     let number = sym (signed-pos (s .args .n)) in
     let line = c .before .before .put-line .ensures in (
-      line .0 ∙ ap (λ (t : List ℕ). putAnswer (rowsWord ++ (blank ∷ []) ++ t ++ (newline ∷ [])) d) number,
-      line .1 ∙ ap (λ (t : List ℕ). putInto (rowsWord ++ (blank ∷ []) ++ t ++ (newline ∷ [])) d) number,
+      line .0 ∙ ap (λ (t : List ℕ). putAnswer (pos 0) (rowsWord ++ (blank ∷ []) ++ t ++ (newline ∷ [])) d) number,
+      line .1 ∙ ap (λ (t : List ℕ). filled (pos 0) (rowsWord ++ (blank ∷ []) ++ t ++ (newline ∷ [])) d) number,
     )
 
 pub put-count-spec : {M : Type 1} → statement M

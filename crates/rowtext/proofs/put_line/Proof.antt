@@ -1,4 +1,5 @@
 -- `put_line` meets its contract: what was put into no bytes tells the length, and each of its two ways out is one law of PutLaws.
+use mathlib.Core.Path.{refl}
 use Rattle.rowtext.specs.PutLaws.{put-short, put-done}
 use borrow.Author.Needs.{needs}
 use Rattle.rowtext.proofs.put_line.Statement.{statement}
@@ -13,7 +14,7 @@ put-word-requires c κs = search needs
 returns : tie.Need-returns
 returns c =
     let s = c .before .before .before .before .before .before in
-    let says = put-short (c .before .before .put-word .ensures) (s .args .out .now) (c .if1 .taken) in
+    let says = put-short refl (c .before .before .put-word .ensures) (s .args .out .now) (c .if1 .taken) in
     (says .answer, says .bytes)
 
 put-word-requires-2 : tie.Need-put-word-requires-2
@@ -25,7 +26,7 @@ same-length c = search needs
 returns-2 : tie.Need-returns-2
 returns-2 c =
     let test = c .before .before .before .before in
-    let says = put-done (test .before .before .put-word .ensures) (test .if1 .left) (c .before .before .put-word2 .ensures) in
+    let says = put-done refl (test .before .before .put-word .ensures) (test .if1 .left) (c .before .before .put-word2 .ensures) in
     (says .answer, says .bytes)
 
 pub put-line-spec : {M : Type 1} → statement M

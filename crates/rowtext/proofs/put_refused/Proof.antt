@@ -2,9 +2,11 @@
 use mathlib.Core.Path.{refl, ap, _∙_}
 use mathlib.Core.List.{List, [], _∷_, _++_}
 use Prim.Native.Nat.{ℕ}
+use lib.IntN.{pos}
 use Rattle.rowtext.specs.Text.{blank, newline, refusedWord}
 use Rattle.rowtext.specs.TextLaws.{signed-out}
-use Rattle.rowtext.specs.Put.{putAnswer, putInto}
+use Rattle.sheet.specs.Lent.{filled}
+use Rattle.rowtext.specs.Put.{putAnswer}
 use borrow.Author.Needs.{needs}
 use Rattle.rowtext.proofs.put_refused.Statement.{statement}
 use Rattle.rowtext.proofs.put_refused.Tie as tie
@@ -27,8 +29,8 @@ returns c =
     let d = s .args .out .now in
     let number = signed-out (s .fits .n) (c .before .before .before .before .size .ensures) in
     let line = c .before .before .put-line .ensures in (
-      line .0 ∙ ap (λ (t : List ℕ). putAnswer (refusedWord ++ (blank ∷ []) ++ t ++ (newline ∷ [])) d) number,
-      (line .1 ∙ ap (λ (t : List ℕ). putInto (refusedWord ++ (blank ∷ []) ++ t ++ (newline ∷ [])) d) number, refl),
+      line .0 ∙ ap (λ (t : List ℕ). putAnswer (pos 0) (refusedWord ++ (blank ∷ []) ++ t ++ (newline ∷ [])) d) number,
+      (line .1 ∙ ap (λ (t : List ℕ). filled (pos 0) (refusedWord ++ (blank ∷ []) ++ t ++ (newline ∷ [])) d) number, refl),
     )
 
 pub put-refused-spec : {M : Type 1} → statement M

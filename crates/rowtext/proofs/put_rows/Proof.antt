@@ -1,9 +1,7 @@
 -- `put_rows` meets its contract: what was put into no bytes tells the length, and each of its three ways out is one law of PutLaws.
 use mathlib.Core.Path.{refl}
-use native.Mathlib.Nat.{div-mul-le-self}
-use lib.ListN.{length}
-use Rattle.rowtext.specs.Text.{width, rowsText}
-use Rattle.rowtext.specs.PutLaws.{put-short, put-done, no-rows, rows-say}
+use Rattle.rowtext.specs.Text.{rowsText}
+use Rattle.rowtext.specs.PutLaws.{put-short, put-done, no-rows, rows-taken}
 use borrow.Author.Needs.{needs}
 use Rattle.rowtext.proofs.put_rows.Statement.{statement}
 use Rattle.rowtext.proofs.put_rows.Tie as tie
@@ -11,7 +9,7 @@ use Rattle.rowtext.proofs.put_rows.Tie as tie
 returns : tie.Need-returns
 returns c =
     let says = no-rows (c .before .before .args .rows .now) (c .before .before .args .out .now) (c .if1 .taken) in
-    (says .0, (says .1, refl))
+    (says .answer, (says .bytes, refl))
 
 slice-aggregate-put-all : tie.Need-slice-aggregate-put-all
 slice-aggregate-put-all c = search needs
@@ -23,10 +21,9 @@ returns-2 : tie.Need-returns-2
 unfolding rowsText
 returns-2 c =
     let s = c .before .before .before .before .before .before in
-    let d = s .args .out .now in
-    let says =
-    rows-say (s .args .rows .now) d (c .before .before .before .before .if1 .left) (put-short (c .before .before .put-all .ensures) d (c .if2 .taken)) in
-    (says .0, (says .1, refl))
+    let rows = rows-taken (s .args .rows .now) (c .before .before .before .before .if1 .left) in
+    let says = put-short rows (c .before .before .put-all .ensures) (s .args .out .now) (c .if2 .taken) in
+    (says .answer, (says .bytes, refl))
 
 put-all-requires-2 : tie.Need-put-all-requires-2
 put-all-requires-2 c κs = search needs
@@ -39,9 +36,9 @@ unfolding rowsText
 returns-3 c =
     let test = c .before .before .before .before in
     let s = test .before .before .before .before .before .before in
-    let done = put-done (test .before .before .put-all .ensures) (test .if2 .left) (c .before .before .put-all2 .ensures) in
-    let says = rows-say (s .args .rows .now) (s .args .out .now) (test .before .before .before .before .if1 .left) done in
-    (says .0, (says .1, refl))
+    let rows = rows-taken (s .args .rows .now) (test .before .before .before .before .if1 .left) in
+    let says = put-done rows (test .before .before .put-all .ensures) (test .if2 .left) (c .before .before .put-all2 .ensures) in
+    (says .answer, (says .bytes, refl))
 
 pub put-rows-spec : {M : Type 1} → statement M
 put-rows-spec =

@@ -1,13 +1,13 @@
 -- `write_drawing` meets its contract: each way out is one of `write-refused`, `write-short` and `write-done`. Assumes nothing.
 use borrow.Author.Needs.{needs}
-use mathlib.Core.Path.{_≡_, refl, sym, ap, _∙_}
+use mathlib.Core.Path.{_≡_, refl, sym, _∙_}
 use Prim.Native.Nat.{_+_}
 use native.Mathlib.Omega.{arith}
 use lib.IntN.{pos}
 use lib.ListN.{length, length-append}
-use lib.Seq.{length-sets}
 use Rattle.whole.specs.Bound.{fits64, w-pos}
 use Rattle.whole.specs.Tests.{fits-ok, eq-taken}
+use Rattle.sheet.specs.LentLaws.{wrote-length}
 use Rattle.sheet.specs.Lists.{countOf, listRefusal}
 use Rattle.sheet.specs.ListsLaws.{Listable, listable}
 use Rattle.store.specs.Stored.{writeNumber, writeObjects, writeDrawing}
@@ -17,22 +17,18 @@ use Rattle.store.specs.AnswersLaws.{write-refused, write-short, write-do
 use Rattle.store.proofs.write_drawing.Statement.{statement}
 use Rattle.store.proofs.write_drawing.Tie as tie
 
--- src/lib.rt:67:9
 list-refusal-requires : tie.Need-list-refusal-requires
 list-refusal-requires c κs = search needs
 
--- src/lib.rt:69:9
 returns : tie.Need-returns
 returns c =
     let s = c .before .before .before in
     let r = c .before .list-refusal in
     write-refused (s .args .list .now) (s .args .out .now) (r .result) (r .ok) (r .ensures) (c .if1 .taken)
 
--- src/lib.rt:72:18
 number-size-requires : tie.Need-number-size-requires
 number-size-requires c κs = search needs
 
--- src/lib.rt:72:46
 -- the list is accepted
 taken : (c : tie.Else1) → listRefusal (c .before .before .before .args .list .now) ≡ pos 0
 taken c =
@@ -55,7 +51,6 @@ long c =
 objects-size-requires : tie.Need-objects-size-requires
 objects-size-requires c κs = (fine (c .before), refl)
 
--- src/lib.rt:72:18
 add-length : tie.Need-add-length
 add-length c =
     let list = c .before .before .before .before .before .args .list .now in
@@ -70,31 +65,26 @@ add-length c =
       f .few,
     )
 
--- src/lib.rt:74:9
 returns-2 : tie.Need-returns-2
 returns-2 c =
     let s = c .before .before .before .before .before .before in
     write-short (s .args .list .now) (s .args .out .now) _ (taken (c .before .before .before)) (long (c .before)) (c .if2 .taken)
 
--- src/lib.rt:76:9
 write-number-requires : tie.Need-write-number-requires
 write-number-requires c κs =
     let f = fine (c .before .before .before .before) in
     (omega (arith, f .few), omega (arith, c .before .before .before .number-size .ensures, c .before .if2 .left))
 
--- src/lib.rt:77:5
 write-objects-requires : tie.Need-write-objects-requires
 write-objects-requires c κs =
     let s = c .before .before .before .before .before .before .before .before .before .before .before in
     let list = s .args .list .now in
     let f = fine (c .before .before .before .before .before .before .before .before) in
-    let w = c .before .before .before .write-number .ensures in
-    let same : length (c .before .before .before .write-number .last .0) ≡ length (s .args .out .now) = ap length (w .is) ∙ length-sets
-    (s .args .out .now) 0 (writeNumber (countOf list)) in (
+    let w = c .before .before .before .write-number .ensures in (
       (f, refl),
       omega (
         arith,
-        same,
+        wrote-length w,
         w .place,
         c .before .before .before .before .before .before .before .number-size .ensures,
         c .before .before .before .before .before .before .objects-size .ensures,
@@ -102,11 +92,9 @@ write-objects-requires c κs =
       ),
     )
 
--- src/lib.rt:63:1
 same-length : tie.Need-same-length
 same-length c = search needs
 
--- src/lib.rt:63:1
 returns-3 : tie.Need-returns-3
 returns-3 c =
     let s = c .before .before .before .before .before .before .before .before .before .before .before .before .before .before in

@@ -7,9 +7,6 @@ use Rattle.listing.specs.ListingLaws.{lacks-none, lacks}
 use borrow.Author.Needs.{needs}
 use Rattle.listing.proofs.all.lacking_room.Statement.{statement}
 use Rattle.listing.proofs.all.lacking_room.Tie as tie
-use Rattle.listing.proofs.all.lacking_room.Reads as reads
-use Rattle.listing.proofs.all.lacking_room.Lts as lts
-use Rattle.listing.proofs.all.size_of_rows.Reads as size-of-rows-reads
 
 mul-square : tie.Need-mul-square
 mul-square c = omega (arith, square-most (c .pre .few))

@@ -8,9 +8,6 @@ use Rattle.listing.specs.Rows.{rowsWith}
 use Rattle.listing.specs.RowsLaws.{rowsFirst, first-rows-none, first-rows-more, first-rows-room, rows-most, square-most}
 use Rattle.listing.proofs.all.size_of_rows.Statement.{statement}
 use Rattle.listing.proofs.all.size_of_rows.Tie as tie
-use Rattle.listing.proofs.all.size_of_rows.Reads as reads
-use Rattle.listing.proofs.all.size_of_rows.Lts as lts
-use Rattle.listing.proofs.rows.size_with.Reads as size-with-reads
 
 abbrev Inv-loop : tie.InvT-loop
 Inv-loop list n size₀ i₀ size i = (i ≤ countOf list) × (size ≡ length (rowsFirst list i))

@@ -5,9 +5,6 @@ use Rattle.sheet.specs.AnswersLaws.{refused-first, refused-next}
 use borrow.Author.Needs.{needs}
 use Rattle.listing.proofs.objects.index_refusal.Statement.{statement}
 use Rattle.listing.proofs.objects.index_refusal.Tie as tie
-use Rattle.listing.proofs.objects.index_refusal.Reads as reads
-use Rattle.listing.proofs.objects.index_refusal.Lts as lts
-use Rattle.sheet.proofs.lists.list_refusal.Reads as list-refusal-reads
 
 list-refusal-requires : tie.Need-list-refusal-requires
 list-refusal-requires c κs = search needs

@@ -6,9 +6,6 @@ use Rattle.listing.specs.ListingLaws.{lacks-none, lacks}
 use borrow.Author.Needs.{needs}
 use Rattle.listing.proofs.rows.lacking_with.Statement.{statement}
 use Rattle.listing.proofs.rows.lacking_with.Tie as tie
-use Rattle.listing.proofs.rows.lacking_with.Reads as reads
-use Rattle.listing.proofs.rows.lacking_with.Lts as lts
-use Rattle.listing.proofs.rows.size_with.Reads as size-with-reads
 
 add-later : tie.Need-add-later
 add-later c = search needs

@@ -8,10 +8,6 @@ use Rattle.listing.specs.RowsLaws.{met-by}
 use borrow.Author.Needs.{needs}
 use Rattle.listing.proofs.rows.meet.Statement.{statement}
 use Rattle.listing.proofs.rows.meet.Tie as tie
-use Rattle.listing.proofs.rows.meet.Reads as reads
-use Rattle.listing.proofs.rows.meet.Lts as lts
-use Rattle.kernel.proofs.crossing.cross.Reads as cross-reads
-use Rattle.listing.proofs.objects.object_at.Reads as object-at-reads
 
 object-at-requires : tie.Need-object-at-requires
 object-at-requires c κs = c .pre .1 .1

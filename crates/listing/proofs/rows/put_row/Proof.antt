@@ -1,25 +1,21 @@
-use Prim.Native.Nat.{_+_}
 use mathlib.Core.Path.{_≡_, sym, ap, subst, _∙_}
 use mathlib.Core.List.{_∷_}
 use native.Mathlib.Omega.{arith}
 use lib.IntN.{pos}
 use lib.ListN.{length}
-use lib.Seq.{sets}
 use Rattle.sheet.specs.declared.Object.{Object}
+use Rattle.sheet.specs.declared.Point.{Point}
 use Rattle.sheet.specs.Points.{numbers}
 use Rattle.sheet.specs.Refusal.{Accepted}
 use Rattle.sheet.specs.Crossing.{Meeting, point, many, crossingOf}
 use Rattle.kernel.proofs.Handed as handed
 use Rattle.sheet.specs.Lists.{objectAt}
+use Rattle.sheet.specs.LentLaws.{wrote-none, wrote-as}
 use Rattle.listing.specs.Rows.{rowWidth, meetingOf, rowBy}
 use Rattle.listing.specs.RowsLaws.{meetingBy}
 use borrow.Author.Needs.{needs}
 use Rattle.listing.proofs.rows.put_row.Statement.{statement}
 use Rattle.listing.proofs.rows.put_row.Tie as tie
-use Rattle.listing.proofs.rows.put_row.Reads as reads
-use Rattle.listing.proofs.rows.put_row.Lts as lts
-use Rattle.listing.proofs.rows.meet.Reads as meet-reads
-use Rattle.listing.proofs.rows.write_row.Reads as write-row-reads
 
 meet-requires : tie.Need-meet-requires
 meet-requires c κs =
@@ -63,13 +59,8 @@ returns c =
     let s = k .before .before .before .before in
     let t = c .before .before .before .before .before .before .struct-told .given in
     let p = k .before .p .given .0 .0 in
-    let met : point p ≡ meetingOf (s .args .list .now) (s .args .i) (s .args .j) = met-once (k .before) in (
-      w .ensures .0 ∙ ap (λ (m : Meeting). s .args .at + length (rowBy (s .args .i) (s .args .j) m)) met,
-      w .ensures .1
-          ∙ (λ x. sets (s .args .out .now) (s .args .at) (pos (s .args .i) ∷ pos (s .args .j) ∷ pos 1
-          ∷ numbers (handed.point p (t .0 .1) (t .1 .0 .1) (t .1 .1 .0 .1) (t .1 .1 .1 .0 .1) (t .1 .1 .1 .1 .0 .1) x)))
-          ∙ ap (λ (m : Meeting). sets (s .args .out .now) (s .args .at) (rowBy (s .args .i) (s .args .j) m)) met,
-    )
+    let same = handed.point p (t .0 .1) (t .1 .0 .1) (t .1 .1 .0 .1) (t .1 .1 .1 .0 .1) (t .1 .1 .1 .1 .0 .1) in
+    wrote-as (w .ensures) (ap (λ (q : Point). pos (s .args .i) ∷ pos (s .args .j) ∷ pos 1 ∷ numbers q) same ∙ ap (rowBy (s .args .i) (s .args .j)) (met-once (k .before)))
 
 enum-told : tie.Need-enum-told
 enum-told c = search needs
@@ -86,12 +77,8 @@ same-length-2 c = search needs
 
 returns-2 : tie.Need-returns-2
 returns-2 c =
-    let w = c .before .write-row2 in
     let s = c .before .before .before .before .before .before in
-    let met = met-many (c .before .before .before) in (
-      w .ensures .0 ∙ ap (λ (m : Meeting). s .args .at + length (rowBy (s .args .i) (s .args .j) m)) met,
-      w .ensures .1 ∙ ap (λ (m : Meeting). sets (s .args .out .now) (s .args .at) (rowBy (s .args .i) (s .args .j) m)) met,
-    )
+    wrote-as (c .before .write-row2 .ensures) (ap (rowBy (s .args .i) (s .args .j)) (met-many (c .before .before .before)))
 
 enum-told-2 : tie.Need-enum-told-2
 enum-told-2 c = search needs
@@ -99,10 +86,7 @@ enum-told-2 c = search needs
 returns-3 : tie.Need-returns-3
 returns-3 c =
     let s = c .before .before .before in
-    let told = sym (ap meetingBy (c .enum-told2 .given .1)) ∙ met (c .before .before) in (
-      omega (arith, ap (λ (m : Meeting). length (rowBy (s .args .i) (s .args .j) m)) told),
-      ap (λ (m : Meeting). sets (s .args .out .now) (s .args .at) (rowBy (s .args .i) (s .args .j) m)) told,
-    )
+    wrote-as wrote-none (ap (rowBy (s .args .i) (s .args .j)) (sym (ap meetingBy (c .enum-told2 .given .1)) ∙ met (c .before .before)))
 
 enum-told-3 : tie.Need-enum-told-3
 enum-told-3 c = search needs
@@ -110,10 +94,7 @@ enum-told-3 c = search needs
 returns-4 : tie.Need-returns-4
 returns-4 c =
     let s = c .before .before .before in
-    let told = sym (ap meetingBy (c .enum-told3 .given .1)) ∙ met (c .before .before) in (
-      omega (arith, ap (λ (m : Meeting). length (rowBy (s .args .i) (s .args .j) m)) told),
-      ap (λ (m : Meeting). sets (s .args .out .now) (s .args .at) (rowBy (s .args .i) (s .args .j) m)) told,
-    )
+    wrote-as wrote-none (ap (rowBy (s .args .i) (s .args .j)) (sym (ap meetingBy (c .enum-told3 .given .1)) ∙ met (c .before .before)))
 
 pub put-row-spec : {M : Type 1} → statement M
 put-row-spec =

@@ -1,14 +1,8 @@
-use native.Mathlib.Nat.{zero-add}
 use native.Mathlib.Omega.{arith}
-use lib.ListN.{length}
 use borrow.Author.Needs.{needs}
-use Rattle.listing.specs.Rows.{rowsWith}
 use Rattle.listing.specs.RowsLaws.{rows-with-most}
 use Rattle.listing.proofs.rows.size_with.Statement.{statement}
 use Rattle.listing.proofs.rows.size_with.Tie as tie
-use Rattle.listing.proofs.rows.size_with.Reads as reads
-use Rattle.listing.proofs.rows.size_with.Lts as lts
-use Rattle.listing.proofs.rows.put_rows_with.Reads as put-rows-with-reads
 
 slice-aggregate-put-rows-with : tie.Need-slice-aggregate-put-rows-with
 slice-aggregate-put-rows-with c = search needs

@@ -11,8 +11,6 @@ use lib.ListN.{length-set}
 use borrow.Author.Needs.{needs}
 use Rattle.listing.proofs.rows.write_row.Statement.{statement}
 use Rattle.listing.proofs.rows.write_row.Tie as tie
-use Rattle.listing.proofs.rows.write_row.Reads as reads
-use Rattle.listing.proofs.rows.write_row.Lts as lts
 
 cast-first : tie.Need-cast-first
 cast-first c = search needs
@@ -106,12 +104,14 @@ returns c =
     let a4 : at + 4 ≡ suc (suc (suc (suc at))) = omega arith in
     let a5 : at + 5 ≡ suc (suc (suc (suc (suc at)))) = omega arith in
     let a6 : at + 6 ≡ suc (suc (suc (suc (suc (suc at))))) = omega arith in
-    let a7 : at + 7 ≡ suc (suc (suc (suc (suc (suc (suc at)))))) = omega arith in (
-      refl,
-      λ k. set (set (set (set (set (set (set (set (c .args .out .now) at (one k)) (a1 k) (two k)) (a2 k) (out-is (c .fits .how) k))
+    let a7 : at + 7 ≡ suc (suc (suc (suc (suc (suc (suc at)))))) = omega arith in
+    record {
+      place = refl;
+      cells =
+          λ k. set (set (set (set (set (set (set (set (c .args .out .now) at (one k)) (a1 k) (two k)) (a2 k) (out-is (c .fits .how) k))
           (a3 k) (out-is (c .fits .mx) k)) (a4 k) (out-is (c .fits .nx) k)) (a5 k) (out-is (c .fits .my) k)) (a6 k) (out-is (c .fits .ny) k))
-          (a7 k) (out-is (c .fits .w) k),
-    )
+          (a7 k) (out-is (c .fits .w) k);
+    }
 
 pub write-row-spec : {M : Type 1} → statement M
 write-row-spec =

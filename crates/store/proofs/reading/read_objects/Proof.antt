@@ -2,7 +2,7 @@
 -- what is left gives what putting all gives. Assumes nothing.
 use borrow.Author.Needs.{needs}
 use mathlib.Core.Path.{_≡_, refl, sym, ap, _∙_}
-use mathlib.Core.List.{List, [], _++_}
+use mathlib.Core.List.{List, _++_}
 use Prim.Native.Nat.{ℕ, _≤_, _<_, _+_, _*_, _-_}
 use native.Mathlib.Omega.{arith}
 use lib.IntN.{ℤ, pos}
@@ -17,7 +17,7 @@ use Rattle.store.specs.Stored.{Drawing, readObject, readObjects}
 use Rattle.store.specs.Tells.{Tells}
 use Rattle.store.specs.TellsLaws.{tells-rest}
 use Rattle.store.specs.ObjectsLaws.{objects-step, objects-stop, objects-length, objects-end, objects-over, objects-past}
-use Rattle.store.specs.FillLaws.{sets-two, sets-front}
+use Rattle.sheet.specs.LentLaws.{sets-two, sets-front}
 use Rattle.store.proofs.reading.read_objects.Statement.{statement}
 use Rattle.store.proofs.reading.read_objects.Tie as tie
 

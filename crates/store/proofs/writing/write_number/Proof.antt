@@ -26,7 +26,7 @@ returns : tie.Need-returns
 returns c =
     let s = c .before in
     let e = number-in-one (s .args .n) (c .if1 .taken) in
-    record { place = omega (arith, ap length e); is = ap (sets (s .args .out .now) (s .args .at)) (sym e) }
+    record { place = omega (arith, ap length e); cells = ap (sets (s .args .out .now) (s .args .at)) (sym e) }
 
 add-low : tie.Need-add-low
 add-low c = search needs
@@ -59,7 +59,7 @@ returns-2 c =
     let at = s .args .at in
     record {
       place = omega (arith, ap length e);
-      is =
+      cells =
           ap (λ (k : ℕ). set (set (s .args .out .now) at (128 + s .args .n % 128)) k (s .args .n / 128)) (add-one at)
           ∙ ap (sets (s .args .out .now) at) (sym e);
     }

@@ -5,8 +5,8 @@ use native.Mathlib.Omega.{arith}
 use lib.IntN.{natAbs}
 use Rattle.whole.specs.Tests.{out-ok}
 use Rattle.store.specs.Stored.{writeNumber, writeShape, writeObject}
-use Rattle.store.specs.Bounded.{Wrote}
-use Rattle.store.specs.WriteLaws.{room-one, room-two, wrote-two, wrote-as}
+use Rattle.sheet.specs.Lent.{Wrote}
+use Rattle.sheet.specs.LentLaws.{room-one, room-two, wrote-two, wrote-as}
 use Rattle.store.proofs.writing.write_object.Statement.{statement}
 use Rattle.store.proofs.writing.write_object.Tie as tie
 

@@ -6,14 +6,14 @@ use Prim.Native.Nat.{ℕ, _+_, _*_, _-_, _%_, _<_, _≤_}
 use native.Mathlib.Omega.{arith}
 use lib.IntN.{ℤ}
 use lib.ListN.{length, drop, length-append}
-use lib.Seq.{sets, length-sets}
+use lib.Seq.{sets}
 use Rattle.sheet.specs.Lists.{width, objectFrom}
 use Rattle.sheet.specs.ListsLaws.{from-accepted}
 use Rattle.store.specs.Stored.{writeObject, writeObjects}
-use Rattle.store.specs.Bounded.{Wrote}
-use Rattle.store.specs.WriteLaws.{wrote-as, accepted-bounded}
+use Rattle.sheet.specs.Lent.{Wrote}
+use Rattle.store.specs.WriteLaws.{accepted-bounded}
 use Rattle.store.specs.ListLaws.{objects-more, objects-none}
-use Rattle.store.specs.FillLaws.{sets-two}
+use Rattle.sheet.specs.LentLaws.{sets-two, wrote-as, wrote-length}
 use Rattle.store.proofs.writing.write_objects.Statement.{statement}
 use Rattle.store.proofs.writing.write_objects.Tie as tie
 
@@ -34,13 +34,12 @@ step {d} {from} {count} list {out} {out′} {to} {to′} left at more s w =
     let behind = writeObjects (left - 1) (drop (at + width) list) in
     let next = objects-more left list at more in
     let long = ap length next ∙ length-append piece behind in
-    let same = ap length (w .is) ∙ length-sets out to piece in
     record {
       place = omega (arith, s .place);
-      room = omega (arith, s .room, w .place);
-      same = same ∙ s .same;
+      room = omega (arith, s .room, w .place, wrote-length w);
+      same = wrote-length w ∙ s .same;
       is =
-          (λ i. sets (w .is i) (w .place i) behind)
+          (λ i. sets (w .cells i) (w .place i) behind)
           ∙ sets-two piece behind out to
           ∙ ap (sets out to) (sym next)
           ∙ s .is;
@@ -52,15 +51,12 @@ Inv-loop out₀ from count list to₀ left₀ at₀ out to left at = Stands out�
 abbrev μ-loop : tie.MeasureT-loop
 μ-loop out₀ from count list to₀ left₀ at₀ out to left at = left
 
--- src/writing.rt:183:5
 loop-holds : tie.Need-loop-holds Inv-loop μ-loop
 loop-holds c = record { place = omega arith; room = c .before .pre .1; same = refl; is = refl }
 
--- src/writing.rt:184:13
 object-at-requires : tie.Need-object-at-requires Inv-loop μ-loop
 object-at-requires c κs = omega (arith, c .before .loop .inv .place, c .before .before .before .pre .0 .0 .whole, c .before .before .before .pre .0 .1)
 
--- src/writing.rt:185:9
 write-object-requires : tie.Need-write-object-requires Inv-loop μ-loop
 write-object-requires c κs =
     let s = c .before .before .before .before .before in
@@ -74,7 +70,6 @@ write-object-requires c κs =
     simp (c .before .object-at .ensures)
     (accepted-bounded o (from-accepted (s .pre .0 .0) (l .at) whole below .accepted), omega (arith, l .inv .room))
 
--- src/writing.rt:186:9
 add-at : tie.Need-add-at Inv-loop μ-loop
 add-at c = omega (
   arith,
@@ -83,26 +78,21 @@ add-at c = omega (
   c .before .before .before .before .before .before .before .before .pre .0 .1,
 )
 
--- src/writing.rt:187:9
 sub-left : tie.Need-sub-left Inv-loop μ-loop
 sub-left c = search needs
 
--- src/writing.rt:183:5
 loop-less : tie.Need-loop-less Inv-loop μ-loop
 loop-less c = search needs
 
--- src/writing.rt:183:5
 loop-again : tie.Need-loop-again Inv-loop μ-loop
 loop-again c =
     let l = c .before .before .before .before .before .before .loop in
     step (c .before .before .before .before .before .before .before .before .args .list .now) (l .left) (l .at) (omega arith) (l .inv)
     (wrote-as (c .before .before .write-object .ensures) (ap writeObject (c .before .before .before .before .object-at .ensures)))
 
--- src/writing.rt:175:1
 same-length : tie.Need-same-length Inv-loop μ-loop
 same-length c = c .before .loop .inv .same
 
--- src/writing.rt:175:1
 returns : tie.Need-returns Inv-loop μ-loop
 returns c =
     let l = c .before .loop in

@@ -2,8 +2,8 @@
 use borrow.Author.Needs.{needs}
 use Rattle.whole.specs.Tests.{out-is}
 use Rattle.store.specs.Stored.{writePoint}
-use Rattle.store.specs.Bounded.{Wrote}
-use Rattle.store.specs.WriteLaws.{room-one, room-two, wrote-two}
+use Rattle.sheet.specs.Lent.{Wrote}
+use Rattle.sheet.specs.LentLaws.{room-one, room-two, wrote-two}
 use Rattle.store.proofs.writing.write_pair.Statement.{statement}
 use Rattle.store.proofs.writing.write_pair.Tie as tie
 

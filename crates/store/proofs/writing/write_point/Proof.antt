@@ -4,7 +4,8 @@ use mathlib.Core.Path.{_≡_, ap}
 use native.Mathlib.Omega.{arith}
 use Rattle.whole.specs.Tests.{out-is}
 use Rattle.store.specs.Stored.{writeNumber, zigzag}
-use Rattle.store.specs.WriteLaws.{zigzag-small, room-one, room-two, wrote-two, wrote-as}
+use Rattle.sheet.specs.LentLaws.{room-one, room-two, wrote-two, wrote-as}
+use Rattle.store.specs.WriteLaws.{zigzag-small}
 use Rattle.store.proofs.writing.write_point.Statement.{statement}
 use Rattle.store.proofs.writing.write_point.Tie as tie
 
