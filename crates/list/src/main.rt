@@ -5,9 +5,8 @@ ghost use Prim.Native.Nat.{_+_, _*_, _-_, _≤_};
 ghost use lib.ListN.{length, take};
 ghost use Rattle.io.specs.Counts.{Counts};
 ghost use Rattle.sheet.specs.Limits.{most};
-ghost use Rattle.sheet.specs.Lists.{width};
+ghost use Rattle.sheet.specs.Lists.{width, rowWidth};
 ghost use Rattle.store.specs.Stored.{longest};
-ghost use Rattle.listing.specs.Rows.{rowWidth};
 ghost use Rattle.rowtext.specs.Put.{rowMost};
 
 // The bytes of the longest drawing: the count in two, and each object with its kind in one and four coordinates in two.
@@ -17,7 +16,7 @@ const NUMBERS: usize = Object::MOST * Object::WIDTH;
 // The others that an object can share something with.
 const OTHERS: usize = Object::MOST - 1;
 // The numbers of the rows of one object, and the bytes of their text at its longest.
-const ROWS: usize = OTHERS * listing::ROW_WIDTH;
+const ROWS: usize = OTHERS * sheet::lists::ROW_WIDTH;
 
 const TEXT: usize = OTHERS * rowtext::ROW_MOST;
 

@@ -18,8 +18,8 @@ use borrow.Author.Tests.{ltb-false, le-ltb}
 use Rattle.whole.specs.Tests.{eq-eqZ, ne-eqZ, eq-left, out, out-is}
 use Rattle.sheet.specs.Lent.{filled, Wrote}
 use Rattle.sheet.specs.LentLaws.{wrote-front}
+use Rattle.sheet.specs.Lists.{rowWidth}
 use Rattle.listing.specs.declared.Listed.{Listed}
-use Rattle.listing.specs.Rows.{rowWidth}
 use Rattle.listing.specs.Listing.{listed}
 use Rattle.listing.specs.ListingLaws.{lacking}
 

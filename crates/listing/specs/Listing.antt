@@ -4,9 +4,9 @@ use Prim.Native.Nat.{ℕ, _*_}
 use lib.IntN.{ℤ}
 use Rattle.sheet.specs.Signs.{orElse}
 use Rattle.sheet.specs.Lent.{roomRefusal, otherNumber, lengthGiven}
-use Rattle.sheet.specs.Lists.{listRefusal, indexRefusal}
+use Rattle.sheet.specs.Lists.{rowWidth, listRefusal, indexRefusal}
 use Rattle.listing.specs.declared.Listed.{Listed}
-use Rattle.listing.specs.Rows.{rowWidth, limitsWith, limitsOf}
+use Rattle.listing.specs.Rows.{limitsWith, limitsOf}
 
 -- "A list: 14, 11, each object in turn, 12, then 10"
 abbrev pub allRefusal : List ℤ → ℤ

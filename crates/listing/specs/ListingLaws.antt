@@ -12,9 +12,9 @@ use lib.IntN.{ℤ, pos}
 use borrow.Author.Tests.{ltb-true, lt-ltb, le-ltb}
 use Rattle.whole.specs.Tests.{eqZ, eqZ-true}
 use Rattle.sheet.specs.Signs.{orElse}
-use Rattle.sheet.specs.Lists.{countOf, listRefusal, indexRefusal}
+use Rattle.sheet.specs.Lists.{rowWidth, countOf, listRefusal, indexRefusal}
 use Rattle.sheet.specs.ListsLaws.{Listable, listable}
-use Rattle.listing.specs.Rows.{rowWidth, limitsWith, limitsOf}
+use Rattle.listing.specs.Rows.{limitsWith, limitsOf}
 use Rattle.listing.specs.RowsLaws.{limits-with, limits-all}
 use Rattle.listing.specs.Listing.{allRefusal, oneRefusal}
 

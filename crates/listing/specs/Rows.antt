@@ -10,10 +10,6 @@ use Rattle.sheet.specs.Crossing.{Meeting, none, point, many, crossingOf, limits
 use Rattle.listing.specs.InTurn.{allOf, sumOf}
 use Rattle.sheet.specs.Lists.{countOf, objectAt, firstRefusal}
 
--- "Each row is eight numbers"
-abbrev pub rowWidth : ℕ
-rowWidth = 8
-
 -- what objects i and j of a list share
 unfoldable pub meetingOf : List ℤ → ℕ → ℕ → Meeting
 meetingOf l i j = crossingOf (objectAt l i) (objectAt l j)

@@ -27,9 +27,9 @@ use Rattle.sheet.specs.Crossing.{Meeting, none, point, many, limitsRefusal}
 use Rattle.sheet.specs.CrossingLaws.{crossing-limits}
 use Rattle.listing.specs.InTurn.{inTurn, allOf, sumOf}
 use Rattle.listing.specs.InTurnLaws.{turn-more, length-grows, length-most, length-sum, length-below, sum-shift, sum-none, sum-later}
-use Rattle.sheet.specs.Lists.{countOf}
+use Rattle.sheet.specs.Lists.{rowWidth, countOf}
 use Rattle.sheet.specs.ListsLaws.{Listable, first-none}
-use Rattle.listing.specs.Rows.{rowWidth, meetingOf, rowBy, rowOf, laterOf, rowsWith, rowsOf, isSome, pairCount, sharingWith, sharing, limitsWith, limitsOf}
+use Rattle.listing.specs.Rows.{meetingOf, rowBy, rowOf, laterOf, rowsWith, rowsOf, isSome, pairCount, sharingWith, sharing, limitsWith, limitsOf}
 
 -- ---- the square of a count
 

@@ -1,8 +1,8 @@
 // The whole list: the rows of object 0, of object 1, .., one after another.
-use crate::ROW_WIDTH;
 use crate::rows::put_rows_with;
 use crate::rows::size_with;
 use sheet::Object;
+use sheet::lists::ROW_WIDTH;
 ghost use mathlib.Core.Path.{_≡_};
 ghost use Prim.Native.Nat.{_≤_};
 ghost use lib.ListN.{length};

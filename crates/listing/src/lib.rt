@@ -8,17 +8,16 @@ use crate::all::put_rows;
 use crate::objects::index_refusal;
 use crate::rows::lacking_with;
 use crate::rows::put_rows_with;
+use sheet::lists::ROW_WIDTH;
 use sheet::lists::list_refusal;
 ghost use mathlib.Core.Path.{_≡_};
 ghost use Prim.Native.Nat.{_/_};
 ghost use lib.IntN.{pos};
 ghost use lib.ListN.{length};
 ghost use Rattle.sheet.specs.Lent.{filled};
-ghost use Rattle.listing.specs.Rows.{rowWidth, rowsWith, rowsOf, sharingWith, sharing};
+ghost use Rattle.sheet.specs.Lists.{rowWidth};
+ghost use Rattle.listing.specs.Rows.{rowsWith, rowsOf, sharingWith, sharing};
 ghost use Rattle.listing.specs.Listing.{allRefusal, oneRefusal, listed};
-
-// The numbers of a row.
-pub const ROW_WIDTH: usize = 8;
 
 // What a listing answers: 0, how many rows, and how many numbers they are; or a refusal with 0 and 0, refusal 10 with the length needed.
 pub struct Listed {

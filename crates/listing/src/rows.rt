@@ -1,8 +1,8 @@
 // Rows: what two objects of a list share, written into a lent list.
-use crate::ROW_WIDTH;
 use crate::objects::object_at;
 use sheet::Crossing;
 use sheet::Object;
+use sheet::lists::ROW_WIDTH;
 ghost use mathlib.Core.Path.{_≡_};
 ghost use mathlib.Core.List.{[], _∷_};
 ghost use Prim.Native.Nat.{_+_, _<_, _≤_};
@@ -12,9 +12,9 @@ ghost use Rattle.sheet.specs.Limits.{most};
 ghost use Rattle.sheet.specs.Refusal.{Accepted};
 ghost use Rattle.sheet.specs.Crossing.{crossingOf};
 ghost use Rattle.sheet.specs.Lent.{Wrote};
-ghost use Rattle.sheet.specs.Lists.{countOf, objectAt};
+ghost use Rattle.sheet.specs.Lists.{rowWidth, countOf, objectAt};
 ghost use Rattle.sheet.specs.ListsLaws.{Listable};
-ghost use Rattle.listing.specs.Rows.{rowWidth, rowOf, rowsWith, sharingWith};
+ghost use Rattle.listing.specs.Rows.{rowOf, rowsWith, sharingWith};
 ghost use Rattle.listing.specs.RowsLaws.{Pair, meetingBy};
 ghost use Rattle.listing.specs.ListingLaws.{lacking};
 

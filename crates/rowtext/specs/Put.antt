@@ -8,8 +8,8 @@ use lib.IntN.{ℤ, pos}
 use lib.ListN.{length}
 use lib.Seq.{sets}
 use Rattle.sheet.specs.Lent.{roomRefusal, lengthGiven}
+use Rattle.sheet.specs.Lists.{rowWidth}
 use Rattle.rowtext.specs.declared.Put.{Put}
-use Rattle.rowtext.specs.Text.{width}
 
 -- the largest length that a call can answer
 abbrev pub largest : ℕ
@@ -21,7 +21,7 @@ said n = min n largest
 
 -- "14: list length not a multiple of" the width of a row
 abbrev pub rowsRefusal : List ℤ → ℤ
-rowsRefusal l = cond (eqb (length l % width) 0) (pos 0) (pos 14)
+rowsRefusal l = cond (eqb (length l % rowWidth) 0) (pos 0) (pos 14)
 
 -- what putting a text into lent bytes answers, where n is the refusal before 10; what it leaves there is `filled` (sheet/specs/Lent)
 abbrev pub putAnswer : ℤ → List ℕ → List ℕ → Put

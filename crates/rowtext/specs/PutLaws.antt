@@ -15,8 +15,9 @@ use lib.ListN.{length, length-append}
 use borrow.Author.Tests.{lt-ltb, le-ltb, eq-eqb, ne-eqb}
 use Rattle.whole.specs.Tests.{eq-eqZ}
 use Rattle.sheet.specs.Lent.{filled}
+use Rattle.sheet.specs.Lists.{rowWidth}
 use Rattle.rowtext.specs.declared.Put.{Put}
-use Rattle.rowtext.specs.Text.{signed, width, rowsOf, rowsText, countLine}
+use Rattle.rowtext.specs.Text.{signed, rowsOf, rowsText, countLine}
 use Rattle.rowtext.specs.TextLaws.{Fit, signed-pos, digits-short, rows-short}
 use Rattle.rowtext.specs.Put.{said, numberMost, lineMost, rowsRefusal, putAnswer, Wrote}
 use Rattle.rowtext.specs.WroteLaws.{said-is, said-no-more, Saying, whole, cut, saying, wrote-front}
@@ -52,13 +53,13 @@ module _ {n : ℤ} {text other left : List ℕ} {size : ℕ} (e : n ≡ pos 0) (
 -- ---- rows
 
 module _ (l : List ℤ) where
-  pub no-rows : (d : List ℕ) → (length l % width ≡ 0 → ⊥) → Says (rowsRefusal l) (rowsText l) d (record { refusal = pos 14; length = 0 }) d
+  pub no-rows : (d : List ℕ) → (length l % rowWidth ≡ 0 → ⊥) → Says (rowsRefusal l) (rowsText l) d (record { refusal = pos 14; length = 0 }) d
   no-rows d n =
-      let z = ne-eqb (length l % width) 0 n in
+      let z = ne-eqb (length l % rowWidth) 0 n in
       record { answer = simp z (ap (λ (k : ℕ). record { refusal = pos 14; length = k }) (sym (said-is (omega arith)))); bytes = simp z }
 
-  pub rows-taken : length l % width ≡ 0 → rowsRefusal l ≡ pos 0
-  rows-taken z = simp (eq-eqb (length l % width) 0 z)
+  pub rows-taken : length l % rowWidth ≡ 0 → rowsRefusal l ≡ pos 0
+  rows-taken z = simp (eq-eqb (length l % rowWidth) 0 z)
 
 -- ---- the length needed is answered as it is
 

@@ -7,6 +7,7 @@ use lib.IntN.{ℤ, pos, natAbs}
 use lib.ListN.{length, getD, take, drop}
 use lib.Signed.{ltZ}
 use Rattle.whole.specs.Tests.{eqZ}
+use Rattle.sheet.specs.Lists.{rowWidth}
 
 abbrev pub newline : ℕ
 newline = 10
@@ -63,9 +64,6 @@ numbers (z ∷ zs) = field z ++ numbers zs
 
 -- ---- rows: i, j, 1 for point or another number for many, and the point's five numbers
 
-abbrev pub width : ℕ
-width = 8
-
 -- "the word `point` with mx nx my ny w, or the word `many` and nothing more"
 abbrev pub sharedText : List ℤ → List ℕ
 sharedText r =
@@ -76,7 +74,7 @@ rowText r = signed (getD r 0 (pos 0)) ++ numbers (take 1 (drop 1 r)) ++ sharedTe
 
 -- row k of a list of rows
 abbrev pub rowAt : List ℤ → ℕ → List ℤ
-rowAt l k = take width (drop (k * width) l)
+rowAt l k = take rowWidth (drop (k * rowWidth) l)
 
 -- the first k rows
 unfoldable pub rowsTo : List ℤ → ℕ → List ℕ
@@ -84,7 +82,7 @@ rowsTo l zero = []
 rowsTo l (suc k) = rowsTo l k ++ rowText (rowAt l k)
 
 abbrev pub rowsOf : List ℤ → ℕ
-rowsOf l = length l / width
+rowsOf l = length l / rowWidth
 
 unfoldable pub rowsText : List ℤ → List ℕ
 rowsText l = rowsTo l (rowsOf l)

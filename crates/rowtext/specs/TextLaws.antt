@@ -25,7 +25,8 @@ use mir.Syntax.{w64}
 use mir.Val.{SFits}
 use Rattle.whole.specs.Bound.{fits64, w-pos}
 use Rattle.whole.specs.Tests.{out, out-is, eqZ, ne-eqZ}
-use Rattle.rowtext.specs.Text.{newline, blank, zeroDigit, pointWord, manyWord, digitsTo, digits, sized, signed, field, numbers, width, sharedText, rowAt, rowText, rowsTo}
+use Rattle.sheet.specs.Lists.{rowWidth}
+use Rattle.rowtext.specs.Text.{newline, blank, zeroDigit, pointWord, manyWord, digitsTo, digits, sized, signed, field, numbers, sharedText, rowAt, rowText, rowsTo}
 use Rattle.rowtext.specs.Put.{numberMost, fieldMost, rowMost}
 
 -- ---- digits
@@ -147,23 +148,23 @@ part-of-front (suc a) n (suc w) (z ∷ m) h = part-of-front a n w m (omega arith
 
 -- the text of the row that begins at a place of a list, by the list's own numbers
 module _ (l : List ℤ) (from : ℕ) where
-  number-of : (i : ℕ) → i < width → getD (take width (drop from l)) i (pos 0) ≡ getD l (from + i) (pos 0)
-  number-of i h = getD-take width (drop from l) i (pos 0) h ∙ getD-drop from l i (pos 0)
+  number-of : (i : ℕ) → i < rowWidth → getD (take rowWidth (drop from l)) i (pos 0) ≡ getD l (from + i) (pos 0)
+  number-of i h = getD-take rowWidth (drop from l) i (pos 0) h ∙ getD-drop from l i (pos 0)
 
-  part-of : (a n : ℕ) → a + n ≤ width → take n (drop a (take width (drop from l))) ≡ take n (drop (from + a) l)
-  part-of a n h = part-of-front a n width (drop from l) h ∙ ap (take n) (drop-drop a from l)
+  part-of : (a n : ℕ) → a + n ≤ rowWidth → take n (drop a (take rowWidth (drop from l))) ≡ take n (drop (from + a) l)
+  part-of a n h = part-of-front a n rowWidth (drop from l) h ∙ ap (take n) (drop-drop a from l)
 
   pub shared-point : getD l (from + 2) (pos 0) ≡ pos 1
-      → sharedText (take width (drop from l)) ≡ blank ∷ pointWord ++ numbers (take 5 (drop (from + 3) l))
+      → sharedText (take rowWidth (drop from l)) ≡ blank ∷ pointWord ++ numbers (take 5 (drop (from + 3) l))
   shared-point e = simp (number-of 2 (omega arith), e, part-of 3 5 (omega arith))
 
-  pub shared-many : (getD l (from + 2) (pos 0) ≡ pos 1 → ⊥) → sharedText (take width (drop from l)) ≡ blank ∷ manyWord
+  pub shared-many : (getD l (from + 2) (pos 0) ≡ pos 1 → ⊥) → sharedText (take rowWidth (drop from l)) ≡ blank ∷ manyWord
   shared-many n = simp (number-of 2 (omega arith), ne-eqZ n)
 
-  pub row-from : rowText (take width (drop from l))
-      ≡ signed (getD l from (pos 0)) ++ numbers (take 1 (drop (from + 1) l)) ++ sharedText (take width (drop from l)) ++ (newline ∷ [])
+  pub row-from : rowText (take rowWidth (drop from l))
+      ≡ signed (getD l from (pos 0)) ++ numbers (take 1 (drop (from + 1) l)) ++ sharedText (take rowWidth (drop from l)) ++ (newline ∷ [])
   unfolding rowText
-  row-from = ap₂ (λ (z : ℤ) (t : List ℕ). signed z ++ t ++ sharedText (take width (drop from l)) ++ (newline ∷ []))
+  row-from = ap₂ (λ (z : ℤ) (t : List ℕ). signed z ++ t ++ sharedText (take rowWidth (drop from l)) ++ (newline ∷ []))
       (number-of 0 (omega arith) ∙ ap (λ (k : ℕ). getD l k (pos 0)) (add-zero from)) (ap numbers (part-of 1 1 (omega arith)))
 
 pub rows-more : (l : List ℤ) (k : ℕ) → rowsTo l (k + 1) ≡ rowsTo l k ++ rowText (rowAt l k)
@@ -220,5 +221,5 @@ unfolding rowsTo
 rows-short l zero f = omega arith
 rows-short l (suc k) f =
     let before = rows-short l k f in
-    let row = row-short (fit-take width (fit-drop (k * width) f)) in
+    let row = row-short (fit-take rowWidth (fit-drop (k * rowWidth) f)) in
     simp length-append (omega arith)

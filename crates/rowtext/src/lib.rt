@@ -2,6 +2,7 @@
 // specs/Text.antt, what a call answers in specs/Put.antt.
 //
 // Each text is put twice by the same functions: into no bytes, which gives its length, and then, where it fits, into the lent ones.
+use sheet::lists::ROW_WIDTH;
 use whole::size;
 ghost use mathlib.Core.Path.{_≡_};
 ghost use mathlib.Core.List.{[], _∷_, _++_};
@@ -9,7 +10,8 @@ ghost use Prim.Native.Nat.{_+_, _*_, _≤_};
 ghost use lib.IntN.{pos};
 ghost use lib.ListN.{length, take, drop};
 ghost use Rattle.sheet.specs.Lent.{filled};
-ghost use Rattle.rowtext.specs.Text.{newline, objectsWord, rowsWord, refusedWord, digits, sized, signed, field, numbers, sharedText, rowText, rowsTo, rowsText, width, countLine};
+ghost use Rattle.sheet.specs.Lists.{rowWidth};
+ghost use Rattle.rowtext.specs.Text.{newline, objectsWord, rowsWord, refusedWord, digits, sized, signed, field, numbers, sharedText, rowText, rowsTo, rowsText, countLine};
 ghost use Rattle.rowtext.specs.Put.{said, rowMost, lineMost, Wrote, rowsRefusal, putAnswer};
 
 // 0 and the length of the text, or the number of the refusal. With 10 comes the length needed.
@@ -18,8 +20,6 @@ pub struct Put {
     pub length: usize,
 }
 
-// How many numbers a row has.
-const WIDTH: usize = 8;
 // The most bytes that the text of a row takes, whatever its numbers are.
 pub const ROW_MOST: usize = 153;
 // The most bytes that a line of a word and a number takes.
@@ -112,8 +112,8 @@ fn put_numbers(list: &[i64], from: usize, count: usize, out: &mut [u8], at: usiz
 
 // What two objects share, from the row that begins at a place of the list.
 fn put_shared(list: &[i64], from: usize, out: &mut [u8], at: usize) -> usize
-    requires { ⌜ from + width ≤ length (now list) ⌝ }
-    ensures { λ r. ⌜ Wrote (now (out .entry)) (now (out .exit)) at r (sharedText (take width (drop from (now (list .entry))))) ⌝ }
+    requires { ⌜ from + rowWidth ≤ length (now list) ⌝ }
+    ensures { λ r. ⌜ Wrote (now (out .entry)) (now (out .exit)) at r (sharedText (take rowWidth (drop from (now (list .entry))))) ⌝ }
 {
     let how = list[from + 2];
     if how == 1 {
@@ -124,8 +124,8 @@ fn put_shared(list: &[i64], from: usize, out: &mut [u8], at: usize) -> usize
 }
 
 fn put_row(list: &[i64], from: usize, out: &mut [u8], at: usize) -> usize
-    requires { ⌜ from + width ≤ length (now list) ⌝ }
-    ensures { λ r. ⌜ Wrote (now (out .entry)) (now (out .exit)) at r (rowText (take width (drop from (now (list .entry))))) ⌝ }
+    requires { ⌜ from + rowWidth ≤ length (now list) ⌝ }
+    ensures { λ r. ⌜ Wrote (now (out .entry)) (now (out .exit)) at r (rowText (take rowWidth (drop from (now (list .entry))))) ⌝ }
 {
     let i = list[from];
     let first = put_number(i, out, at);
@@ -135,34 +135,34 @@ fn put_row(list: &[i64], from: usize, out: &mut [u8], at: usize) -> usize
 }
 
 fn put_all(list: &[i64], rows: usize, out: &mut [u8]) -> usize
-    requires { ⌜ rows * width ≤ length (now list) ⌝ }
+    requires { ⌜ rows * rowWidth ≤ length (now list) ⌝ }
     ensures { λ r. ⌜ Wrote (now (out .entry)) (now (out .exit)) 0 r (rowsTo (now (list .entry)) rows) ⌝ }
 {
     let mut k = 0;
     let mut next = 0;
     while k < rows {
-        let from = k * WIDTH;
+        let from = k * ROW_WIDTH;
         next = put_row(list, from, out, next);
         k += 1;
     }
     next
 }
 
-// The text of all rows of a list, WIDTH numbers a row. Refused with 14 where the list is no list of rows.
+// The text of all rows of a list, ROW_WIDTH numbers a row. Refused with 14 where the list is no list of rows.
 pub fn put_rows(rows: &[i64], out: &mut [u8]) -> Put
     ensures answer { λ r. ⌜ r ≡ putAnswer (rowsRefusal (now (rows .entry))) (rowsText (now (rows .entry))) (now (out .entry)) ⌝ }
     ensures bytes { λ r. ⌜ now (out .exit) ≡ filled (rowsRefusal (now (rows .entry))) (rowsText (now (rows .entry))) (now (out .entry)) ⌝ }
     ensures longest { λ r. do ⌜ (← ⟦ROW_MOST⟧ .entry) ≡ rowMost ⌝ }
 {
     let n = rows.len();
-    let over = n % WIDTH;
+    let over = n % ROW_WIDTH;
     if over != 0 {
         return Put {
             refusal: 14,
             length: 0,
         };
     }
-    let count = n / WIDTH;
+    let count = n / ROW_WIDTH;
     let mut none = [0u8; 0];
     let needed = put_all(rows, count, &mut none);
     if out.len() < needed {

@@ -14,6 +14,10 @@ use Rattle.sheet.specs.Signs.{orElse}
 abbrev pub width : ℕ
 width = 5
 
+-- "Each row is eight numbers": those of a row of a listing
+abbrev pub rowWidth : ℕ
+rowWidth = 8
+
 abbrev pub countOf : List ℤ → ℕ
 countOf l = length l / width
 

@@ -1,9 +1,11 @@
-// Lists of objects: which are refused.
+// Lists of objects: which are refused. And how many numbers a row of a listing has, for those who write rows and those who read them.
 use crate::Object;
 use crate::object_refusal;
 ghost use mathlib.Core.Path.{_≡_};
 ghost use Prim.Native.Nat.{_<_, _≤_};
 ghost use Rattle.sheet.specs.Lists.{countOf, objectAt, objectsRefusal, listRefusal};
+
+pub const ROW_WIDTH: usize = 8;
 
 // Object i of a list.
 fn object_at(list: &[i64], i: usize) -> Object

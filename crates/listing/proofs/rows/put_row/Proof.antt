@@ -9,9 +9,9 @@ use Rattle.sheet.specs.Points.{numbers}
 use Rattle.sheet.specs.Refusal.{Accepted}
 use Rattle.sheet.specs.Crossing.{Meeting, point, many, crossingOf}
 use Rattle.kernel.proofs.Handed as handed
-use Rattle.sheet.specs.Lists.{objectAt}
+use Rattle.sheet.specs.Lists.{rowWidth, objectAt}
 use Rattle.sheet.specs.LentLaws.{wrote-none, wrote-as}
-use Rattle.listing.specs.Rows.{rowWidth, meetingOf, rowBy}
+use Rattle.listing.specs.Rows.{meetingOf, rowBy}
 use Rattle.listing.specs.RowsLaws.{meetingBy}
 use borrow.Author.Needs.{needs}
 use Rattle.listing.proofs.rows.put_row.Statement.{statement}
