@@ -25,94 +25,45 @@ abbrev put-digits-below : ℕ → In 1 put-digits-kinds.ps
 put-digits-below t =
     and 1 put-digits-kinds.ps (falls 1 put-digits-kinds.ps _<_ μ-put-digits t) put-digits.Pre
 
-put-digits-cast-last : (t : ℕ) → put-digits-lts.Need-cast-last (
-  put-byte-reads.Asked,
-  put-byte-reads.Learnt,
-  put-digits-below t,
-  put-digits.Post,
-) (put-digits-at t) put-digits.Post
+abbrev put-digits-claims : ℕ → put-digits-lts.Claims
+put-digits-claims t = (put-byte-reads.Asked, put-byte-reads.Learnt, put-digits-below t, put-digits.Post)
+
+put-digits-cast-last : (t : ℕ) → put-digits-lts.Need-cast-last (put-digits-claims t) (put-digits-at t) put-digits.Post
 put-digits-cast-last t c = omega (arith, mod-lt (c .before .args .n) {m = 10} (omega arith))
 
-put-digits-add-last : (t : ℕ) → put-digits-lts.Need-add-last (
-  put-byte-reads.Asked,
-  put-byte-reads.Learnt,
-  put-digits-below t,
-  put-digits.Post,
-) (put-digits-at t) put-digits.Post
+put-digits-add-last : (t : ℕ) → put-digits-lts.Need-add-last (put-digits-claims t) (put-digits-at t) put-digits.Post
 put-digits-add-last t c = omega (arith, mod-lt (c .before .args .n) {m = 10} (omega arith))
 
-put-digits-put-byte-requires : (t : ℕ) → put-digits-lts.Need-put-byte-requires (
-  put-byte-reads.Asked,
-  put-byte-reads.Learnt,
-  put-digits-below t,
-  put-digits.Post,
-) (put-digits-at t) put-digits.Post
+put-digits-put-byte-requires : (t : ℕ) → put-digits-lts.Need-put-byte-requires (put-digits-claims t) (put-digits-at t) put-digits.Post
 put-digits-put-byte-requires t c κs = tt
 
-put-digits-same-length : (t : ℕ) → put-digits-lts.Need-same-length (
-  put-byte-reads.Asked,
-  put-byte-reads.Learnt,
-  put-digits-below t,
-  put-digits.Post,
-) (put-digits-at t) put-digits.Post
+put-digits-same-length : (t : ℕ) → put-digits-lts.Need-same-length (put-digits-claims t) (put-digits-at t) put-digits.Post
 put-digits-same-length t c = c .before .before .put-byte .kept .1 .0
 
-put-digits-returns : (t : ℕ) → put-digits-lts.Need-returns (
-  put-byte-reads.Asked,
-  put-byte-reads.Learnt,
-  put-digits-below t,
-  put-digits.Post,
-) (put-digits-at t) put-digits.Post
+put-digits-returns : (t : ℕ) → put-digits-lts.Need-returns (put-digits-claims t) (put-digits-at t) put-digits.Post
 put-digits-returns t c =
     let n = c .before .before .before .before .before .before .args .n in
     wrote-as (c .before .before .put-byte .ensures) (sym (digits-one n (c .before .before .before .before .if1 .taken)))
 
-put-digits-put-digits-requires : (t : ℕ) → put-digits-lts.Need-put-digits-requires (
-  put-byte-reads.Asked,
-  put-byte-reads.Learnt,
-  put-digits-below t,
-  put-digits.Post,
-) (put-digits-at t) put-digits.Post
+put-digits-put-digits-requires : (t : ℕ) → put-digits-lts.Need-put-digits-requires (put-digits-claims t) (put-digits-at t) put-digits.Post
 put-digits-put-digits-requires t c κs =
     let s = c .before .before .before in
     (subst (λ (m : ℕ). s .args .n / 10 < m) (s .pre .0) (div-lt-self (omega arith) (omega arith)), tt)
 
-put-digits-put-byte-requires-2 : (t : ℕ) → put-digits-lts.Need-put-byte-requires-2 (
-  put-byte-reads.Asked,
-  put-byte-reads.Learnt,
-  put-digits-below t,
-  put-digits.Post,
-) (put-digits-at t) put-digits.Post
+put-digits-put-byte-requires-2 : (t : ℕ) → put-digits-lts.Need-put-byte-requires-2 (put-digits-claims t) (put-digits-at t) put-digits.Post
 put-digits-put-byte-requires-2 t c κs = tt
 
-put-digits-same-length-2 : (t : ℕ) → put-digits-lts.Need-same-length-2 (
-  put-byte-reads.Asked,
-  put-byte-reads.Learnt,
-  put-digits-below t,
-  put-digits.Post,
-) (put-digits-at t) put-digits.Post
+put-digits-same-length-2 : (t : ℕ) → put-digits-lts.Need-same-length-2 (put-digits-claims t) (put-digits-at t) put-digits.Post
 put-digits-same-length-2 t c = c .before .before .put-byte2 .kept .1 .0 ∙ c .before .before .before .before .before .before .put-digits .kept .1 .0
 
-put-digits-returns-2 : (t : ℕ) → put-digits-lts.Need-returns-2 (
-  put-byte-reads.Asked,
-  put-byte-reads.Learnt,
-  put-digits-below t,
-  put-digits.Post,
-) (put-digits-at t) put-digits.Post
+put-digits-returns-2 : (t : ℕ) → put-digits-lts.Need-returns-2 (put-digits-claims t) (put-digits-at t) put-digits.Post
 put-digits-returns-2 t c =
     let n = c .before .before .before .before .before .before .before .before .before .before .args .n in
     wrote-as (wrote-more (c .before .before .before .before .before .before .put-digits .ensures) (c .before .before .put-byte2 .ensures))
     (sym (digits-more n (c .before .before .before .before .before .before .before .before .if1 .left)))
 
 pub +put-digits-spec : {M : Type 1} → statement M
-+put-digits-spec = close μ-put-digits λ t. put-digits-lts.spec (
-  put-byte-reads.Asked,
-  put-byte-reads.Learnt,
-  put-digits-below t,
-  put-digits.Post,
-)
-    (put-digits-at t)
-    put-digits.Post
++put-digits-spec = close μ-put-digits λ t. put-digits-lts.spec (put-digits-claims t) (put-digits-at t) put-digits.Post
     (put-digits-cast-last t)
     (put-digits-add-last t)
     (put-digits-put-byte-requires t)
