@@ -7,7 +7,7 @@ use lib.Dec.{eqb}
 use lib.IntN.{ℤ, pos}
 use lib.ListN.{length}
 use lib.Seq.{sets}
-use Rattle.sheet.specs.Lent.{roomRefusal, lengthGiven}
+use Rattle.sheet.specs.Lent.{roomRefusal, lengthGiven, filled}
 use Rattle.sheet.specs.Lists.{rowWidth}
 use Rattle.rowtext.specs.declared.Put.{Put}
 
@@ -26,6 +26,11 @@ rowsRefusal l = cond (eqb (length l % rowWidth) 0) (pos 0) (pos 14)
 -- what putting a text into lent bytes answers, where n is the refusal before 10; what it leaves there is `filled` (sheet/specs/Lent)
 abbrev pub putAnswer : ℤ → List ℕ → List ℕ → Put
 putAnswer n text lent = record { refusal = roomRefusal n (length text) (length lent); length = said (lengthGiven n (length text)) }
+
+-- an answer, and what is in the bytes then
+pub record Says (n : ℤ) (text lent : List ℕ) (r : Put) (after : List ℕ) : Type 0 where
+  pub answer : r ≡ putAnswer n text lent
+  pub bytes : after ≡ filled n text lent
 
 -- ---- how long rows and lines can be
 

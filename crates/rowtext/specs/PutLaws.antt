@@ -1,11 +1,12 @@
 -- Laws of what a call answers and leaves. To cite:
+--   says-as      the text in other words
 --   put-short    too few bytes: 10 and the length needed, and every byte as it was
 --   put-done     enough, and the text was written from place 0 on: 0 and the place after it
 --   no-rows, rows-taken   a list that is no list of rows is refused, and one that is is not
 --   line-short, count-short   how long a line can be, and a count in it (a refusal's number: signed-short)
 --   line-said, rows-said   the length needed is answered as it is: of a line, and of a list of fewer than 2^59 numbers
 -- Assumes nothing.
-use mathlib.Core.Path.{_≡_, sym, _∙_, ap}
+use mathlib.Core.Path.{_≡_, sym, _∙_, ap, subst}
 use mathlib.Core.List.{List}
 use Prim.Native.Nat.{ℕ, _%_, _^_, _≤_, _<_}
 use native.Mathlib.Nat.{zero-add}
@@ -14,18 +15,15 @@ use lib.IntN.{ℤ, pos}
 use lib.ListN.{length, length-append}
 use borrow.Author.Tests.{lt-ltb, le-ltb, eq-eqb, ne-eqb}
 use Rattle.whole.specs.Tests.{eq-eqZ}
-use Rattle.sheet.specs.Lent.{filled}
 use Rattle.sheet.specs.Lists.{rowWidth}
 use Rattle.rowtext.specs.declared.Put.{Put}
 use Rattle.rowtext.specs.Text.{signed, rowsOf, rowsText, countLine}
 use Rattle.rowtext.specs.TextLaws.{Fit, signed-pos, digits-short, rows-short}
-use Rattle.rowtext.specs.Put.{said, numberMost, lineMost, rowsRefusal, putAnswer, Wrote}
+use Rattle.rowtext.specs.Put.{said, numberMost, lineMost, rowsRefusal, Says, Wrote}
 use Rattle.rowtext.specs.WroteLaws.{said-is, said-no-more, Saying, whole, cut, saying, wrote-front}
 
--- an answer, and what is in the bytes then; n is the refusal before 10
-pub record Says (n : ℤ) (text d : List ℕ) (r : Put) (e : List ℕ) : Type 0 where
-  pub answer : r ≡ putAnswer n text d
-  pub bytes : e ≡ filled n text d
+pub says-as : {n : ℤ} {text other d e : List ℕ} {r : Put} → Says n text d r e → text ≡ other → Says n other d r e
+says-as {n} {text} {other} {d} {e} {r} s q = subst (λ (t : List ℕ). Says n t d r e) q s
 
 -- what was put into no bytes, or into any others, tells the length
 length-is : {d e text : List ℕ} {n : ℕ} → Wrote d e 0 n text → n ≡ said (length text)

@@ -3,6 +3,7 @@
 --   digits-value, digits-fewest the digits say the number, and no fewer could
 --   digits-short, signed-short  a u64 and an i64 are at most 20 bytes long
 --   signed-pos, signed-out      a number that is not below 0; a number out of a local
+--   count-line                  the line of a word and a count
 --   numbers-one-more            one number more at the end
 --   shared-point, shared-many, row-from   the text of the row that begins at a place of a list
 --   rows-more                   one row more at the end
@@ -26,7 +27,7 @@ use mir.Val.{SFits}
 use Rattle.whole.specs.Bound.{fits64, w-pos}
 use Rattle.whole.specs.Tests.{out, out-is, eqZ, ne-eqZ}
 use Rattle.sheet.specs.Lists.{rowWidth}
-use Rattle.rowtext.specs.Text.{newline, blank, zeroDigit, pointWord, manyWord, digitsTo, digits, sized, signed, field, numbers, sharedText, rowAt, rowText, rowsTo}
+use Rattle.rowtext.specs.Text.{newline, blank, zeroDigit, pointWord, manyWord, digitsTo, digits, sized, signed, field, numbers, sharedText, rowAt, rowText, rowsTo, countLine}
 use Rattle.rowtext.specs.Put.{numberMost, fieldMost, rowMost}
 
 -- ---- digits
@@ -116,6 +117,9 @@ signed-short z f = go (ltZ z (pos 0))
 
 pub signed-pos : (n : ℕ) → signed (pos n) ≡ digits n
 signed-pos n = simp (le-ltb n 0 (omega arith))
+
+pub count-line : (word : List ℕ) (n : ℕ) → word ++ (blank ∷ []) ++ sized false n ++ (newline ∷ []) ≡ countLine word (pos n)
+count-line word n = ap (λ (t : List ℕ). word ++ (blank ∷ []) ++ t ++ (newline ∷ [])) (sym (signed-pos n))
 
 -- an i64 out of a local
 pub signed-out : {z : ℤ} {n : ℕ} → SFits w64 z → n ≡ natAbs (out z) → sized (ltZ (out z) (pos 0)) n ≡ signed z

@@ -12,7 +12,7 @@ ghost use lib.ListN.{length, take, drop};
 ghost use Rattle.sheet.specs.Lent.{filled};
 ghost use Rattle.sheet.specs.Lists.{rowWidth};
 ghost use Rattle.rowtext.specs.Text.{newline, objectsWord, rowsWord, refusedWord, digits, sized, signed, field, numbers, sharedText, rowText, rowsTo, rowsText, countLine};
-ghost use Rattle.rowtext.specs.Put.{said, rowMost, lineMost, Wrote, rowsRefusal, putAnswer};
+ghost use Rattle.rowtext.specs.Put.{said, rowMost, lineMost, Wrote, rowsRefusal, putAnswer, Says};
 
 // 0 and the length of the text, or the number of the refusal. With 10 comes the length needed.
 pub struct Put {
@@ -189,8 +189,7 @@ fn put_word(word: &[u8], below: bool, n: u64, out: &mut [u8]) -> usize
 
 // The line of a word and a number.
 fn put_line(word: &[u8], below: bool, n: u64, out: &mut [u8]) -> Put
-    ensures answer { λ r. ⌜ r ≡ putAnswer (pos 0) (now (word .entry) ++ sized below n ++ (newline ∷ [])) (now (out .entry)) ⌝ }
-    ensures bytes { λ r. ⌜ now (out .exit) ≡ filled (pos 0) (now (word .entry) ++ sized below n ++ (newline ∷ [])) (now (out .entry)) ⌝ }
+    ensures { λ r. ⌜ Says (pos 0) (now (word .entry) ++ sized below n ++ (newline ∷ [])) (now (out .entry)) r (now (out .exit)) ⌝ }
 {
     let mut none = [0u8; 0];
     let length = put_word(word, below, n, &mut none);

@@ -14,8 +14,7 @@ put-word-requires c κs = search needs
 returns : tie.Need-returns
 returns c =
     let s = c .before .before .before .before .before .before in
-    let says = put-short refl (c .before .before .put-word .ensures) (s .args .out .now) (c .if1 .taken) in
-    (says .answer, says .bytes)
+    put-short refl (c .before .before .put-word .ensures) (s .args .out .now) (c .if1 .taken)
 
 put-word-requires-2 : tie.Need-put-word-requires-2
 put-word-requires-2 c κs = search needs
@@ -26,8 +25,7 @@ same-length c = search needs
 returns-2 : tie.Need-returns-2
 returns-2 c =
     let test = c .before .before .before .before in
-    let says = put-done refl (test .before .before .put-word .ensures) (test .if1 .left) (c .before .before .put-word2 .ensures) in
-    (says .answer, says .bytes)
+    put-done refl (test .before .before .put-word .ensures) (test .if1 .left) (c .before .before .put-word2 .ensures)
 
 pub put-line-spec : {M : Type 1} → statement M
 put-line-spec =

@@ -1,12 +1,7 @@
 -- `put_objects` meets its contract: a count is not below 0.
-use mathlib.Core.Path.{sym, ap, _∙_}
-use mathlib.Core.List.{List, [], _∷_, _++_}
-use Prim.Native.Nat.{ℕ}
-use lib.IntN.{pos}
-use Rattle.rowtext.specs.Text.{blank, newline, objectsWord}
-use Rattle.rowtext.specs.TextLaws.{signed-pos}
-use Rattle.sheet.specs.Lent.{filled}
-use Rattle.rowtext.specs.Put.{putAnswer}
+use Rattle.rowtext.specs.Text.{objectsWord}
+use Rattle.rowtext.specs.TextLaws.{count-line}
+use Rattle.rowtext.specs.PutLaws.{says-as}
 use borrow.Author.Needs.{needs}
 use Rattle.rowtext.proofs.put_objects.Statement.{statement}
 use Rattle.rowtext.proofs.put_objects.Tie as tie
@@ -23,12 +18,8 @@ same-length c = search needs
 returns : tie.Need-returns
 returns c =
     let s = c .before .before .before .before .before .before in
-    let d = s .args .out .now in
-    let number = sym (signed-pos (s .args .n)) in
-    let line = c .before .before .put-line .ensures in (
-      line .0 ∙ ap (λ (t : List ℕ). putAnswer (pos 0) (objectsWord ++ (blank ∷ []) ++ t ++ (newline ∷ [])) d) number,
-      line .1 ∙ ap (λ (t : List ℕ). filled (pos 0) (objectsWord ++ (blank ∷ []) ++ t ++ (newline ∷ [])) d) number,
-    )
+    let says = says-as (c .before .before .put-line .ensures) (count-line objectsWord (s .args .n)) in
+    (says .answer, says .bytes)
 
 pub put-objects-spec : {M : Type 1} → statement M
 put-objects-spec =
