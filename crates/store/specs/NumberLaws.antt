@@ -7,9 +7,9 @@ use mathlib.Core.Logic.{_⊎_, inl, inr}
 use mathlib.Core.List.{List, [], _∷_}
 use Prim.Native.Nat.{ℕ, _+_, _*_, _-_, _<_, _≤_}
 use native.Mathlib.Omega.{arith}
-use borrow.Author.Tests.{lt-ltb, le-ltb, ltb-true, ltb-false, ne-eqb, eqb-true, eqb-false}
+use borrow.Author.Tests.{lt-ltb, le-ltb, leb-true, leb-false, ne-eqb, eqb-true, eqb-false}
 use mathlib.Core.Bool.{true, false, _||_}
-use lib.Dec.{ltb, eqb}
+use lib.Dec.{leb, eqb}
 use Rattle.sheet.specs.Flags.{either, neither}
 use lib.IntN.{pos}
 use lib.ListN.{length, getD, drop}
@@ -32,18 +32,18 @@ number-cut (b ∷ []) e l = simp (le-ltb b 128 l)
 number-cut (b ∷ d ∷ bs) e l = absurd (omega arith)
 
 -- what the test of the second byte says
-pub second-bad : (d : ℕ) → (eqb d 0 || ltb 127 d) ≡ true → (d ≡ 0) ⊎ (128 ≤ d)
-second-bad d h = go (either (eqb d 0) (ltb 127 d) .0 h)
+pub second-bad : (d : ℕ) → (eqb d 0 || leb 128 d) ≡ true → (d ≡ 0) ⊎ (128 ≤ d)
+second-bad d h = go (either (eqb d 0) (leb 128 d) .0 h)
   where
-    go : (eqb d 0 ≡ true) ⊎ (ltb 127 d ≡ true) → (d ≡ 0) ⊎ (128 ≤ d)
+    go : (eqb d 0 ≡ true) ⊎ (leb 128 d ≡ true) → (d ≡ 0) ⊎ (128 ≤ d)
     go (inl e) = inl (eqb-true d 0 e)
-    go (inr l) = inr (ltb-true 127 d l)
+    go (inr l) = inr (leb-true 128 d l)
 
-pub second-good : (d : ℕ) → (eqb d 0 || ltb 127 d) ≡ false → (0 < d) × (d < 128)
+pub second-good : (d : ℕ) → (eqb d 0 || leb 128 d) ≡ false → (0 < d) × (d < 128)
 second-good d h =
-    let f = neither (eqb d 0) (ltb 127 d) .0 h in
+    let f = neither (eqb d 0) (leb 128 d) .0 h in
     let n = eqb-false d 0 (f .0) in
-    let l = ltb-false 127 d (f .1) in
+    let l = leb-false 128 d (f .1) in
     (omega arith, omega arith)
 
 pub number-over :

@@ -14,14 +14,18 @@ use Rattle.sheet.specs.Refusal.{outside, beyond, equal}
 use Rattle.sheet.specs.Answers.{objectNumbers}
 use Rattle.sheet.specs.Lists.{width, countOf, objectFrom}
 
+-- a group of seven bits holds the numbers below this, which is also the value of a byte's top bit
+abbrev pub group : ℕ
+group = 128
+
 -- "in the fewest groups, two at most": how many may come after the first
 abbrev pub moreGroups : ℕ
 moreGroups = 1
 
 -- so many groups hold the numbers below this
 abbrev pub limit : ℕ → ℕ
-limit zero = 128
-limit (suc more) = 128 * limit more
+limit zero = group
+limit (suc more) = group * limit more
 
 abbrev pub numberLimit : ℕ
 numberLimit = limit moreGroups
@@ -35,7 +39,7 @@ longest = 2 + most * 9
 -- "Every number is in groups of seven bits, low group first, the top bit set in every byte but the number's last"
 unfoldable pub writeGroups : ℕ → ℕ → List ℕ
 writeGroups zero n = n ∷ []
-writeGroups (suc more) n = cond (ltb n 128) (n ∷ []) ((128 + n % 128) ∷ writeGroups more (n / 128))
+writeGroups (suc more) n = cond (ltb n group) (n ∷ []) ((group + n % group) ∷ writeGroups more (n / group))
 
 abbrev pub writeNumber : ℕ → List ℕ
 writeNumber = writeGroups moreGroups
@@ -83,9 +87,9 @@ checked bad n a rest = cond bad (no n) (got a rest)
 -- its second group is 0"
 unfoldable pub readGroups : ℕ → List ℕ → Reading ℕ
 readGroups more [] = no (pos 7)
-readGroups zero (b ∷ bs) = cond (ltb b 128) (got b bs) (no (pos 8))
+readGroups zero (b ∷ bs) = cond (ltb b group) (got b bs) (no (pos 8))
 readGroups (suc more) (b ∷ bs) =
-    cond (ltb b 128) (got b bs) (next (readGroups more bs) (λ n rest. checked (eqb n 0) (pos 8) (b - 128 + 128 * n) rest))
+    cond (ltb b group) (got b bs) (next (readGroups more bs) (λ n rest. checked (eqb n 0) (pos 8) (b - group + group * n) rest))
 
 abbrev pub readNumber : List ℕ → Reading ℕ
 readNumber = readGroups moreGroups

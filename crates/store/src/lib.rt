@@ -17,6 +17,9 @@ ghost use Rattle.store.specs.Answers.{readAnswer, readInto, writeAnswer,
 mod reading; // reading.rt: numbers, objects and counts that bytes begin with
 mod writing; // writing.rt: the bytes of numbers, points and objects
 
+// A group of seven bits holds the numbers below this. It is also the top bit of a byte, which says that another group follows.
+const GROUP: u64 = 128;
+
 // What reading a drawing into a lent list answers.
 pub struct Read {
     pub refusal: i64,

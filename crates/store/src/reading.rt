@@ -1,5 +1,6 @@
 // Reading: the number, the point, the object or the count that bytes begin with, and the objects after the count. Each answer tells
 // how many bytes were taken, or the refusal; the rest of the slice is handed on to the next reading function.
+use crate::GROUP;
 use sheet::Object;
 ghost use mathlib.Core.Path.{_≡_};
 ghost use Prim.Native.Nat.{_<_, _≤_, _+_, _*_};
@@ -29,7 +30,7 @@ pub(crate) fn read_number(bytes: &[u8]) -> Number
         };
     }
     let low = bytes[0] as u64;
-    if low < 128 {
+    if low < GROUP {
         return Number {
             refusal: 0,
             value: low,
@@ -44,7 +45,7 @@ pub(crate) fn read_number(bytes: &[u8]) -> Number
         };
     }
     let high = bytes[1] as u64;
-    if (high == 0) | (127 < high) {
+    if (high == 0) | (GROUP <= high) {
         return Number {
             refusal: 8,
             value: 0,
@@ -53,7 +54,7 @@ pub(crate) fn read_number(bytes: &[u8]) -> Number
     }
     Number {
         refusal: 0,
-        value: low - 128 + 128 * high,
+        value: low - GROUP + GROUP * high,
         size: 2,
     }
 }

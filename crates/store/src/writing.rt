@@ -1,4 +1,5 @@
 // Writing: the bytes of a number, of a point and of an object, put at a place of a list, and how many they are.
+use crate::GROUP;
 use sheet::Object;
 ghost use mathlib.Core.Path.{_≡_};
 ghost use mathlib.Core.List.{_++_};
@@ -30,7 +31,7 @@ pub(crate) fn object_at(list: &[i64], at: usize) -> Object
 pub(crate) fn number_size(n: u64) -> usize
     ensures { λ r. ⌜ r ≡ length (writeNumber n) ⌝ }
 {
-    if n < 128 {
+    if n < GROUP {
         return 1;
     }
     2
@@ -78,12 +79,12 @@ pub(crate) fn write_number(out: &mut [u8], at: usize, n: u64) -> usize
     requires { ⌜ (n < numberLimit) × (at + length (writeNumber n) ≤ length (now out)) ⌝ }
     ensures { λ r. ⌜ Wrote (now (out .entry)) (now (out .exit)) at r (writeNumber n) ⌝ }
 {
-    if n < 128 {
+    if n < GROUP {
         out[at] = n as u8;
         return at + 1;
     }
-    let low = 128 + n % 128;
-    let high = n / 128;
+    let low = GROUP + n % GROUP;
+    let high = n / GROUP;
     out[at] = low as u8;
     out[at + 1] = high as u8;
     at + 2
