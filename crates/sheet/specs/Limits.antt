@@ -3,8 +3,11 @@ use Prim.Native.Nat.{ℕ}
 use lib.IntN.{ℤ, pos}
 
 -- "each coordinate is from -2,000 to 2,000, both included"
+abbrev pub reachSize : ℕ
+reachSize = 2000
+
 abbrev pub reach : ℤ
-reach = pos 2000
+reach = pos reachSize
 
 -- "A sheet has 0 to 512 objects"
 abbrev pub most : ℕ

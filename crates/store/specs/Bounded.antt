@@ -2,14 +2,15 @@
 use Prim.Native.Nat.{_≤_}
 use lib.IntN.{ℤ, natAbs}
 use Rattle.sheet.specs.declared.Object.{Object}
+use Rattle.sheet.specs.Limits.{reachSize}
 
 -- numbers small enough for two groups of seven bits
 pub record Small (x y u v : ℤ) : Type 0 where
-  pub px : natAbs x ≤ 2000
-  pub py : natAbs y ≤ 2000
-  pub qx : natAbs u ≤ 2000
-  pub qy : natAbs v ≤ 2000
+  pub px : natAbs x ≤ reachSize
+  pub py : natAbs y ≤ reachSize
+  pub qx : natAbs u ≤ reachSize
+  pub qy : natAbs v ≤ reachSize
 
 pub record Bounded (o : Object) : Type 0 where
-  pub kind : natAbs (o .kind) ≤ 2000
+  pub kind : natAbs (o .kind) ≤ reachSize
   pub rest : Small (o .px) (o .py) (o .qx) (o .qy)

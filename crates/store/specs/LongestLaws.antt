@@ -182,7 +182,7 @@ drawing-longer bs t h = go (same-number bs t (omega arith)) (sure-number bs)
     go (off n) (sure.refused m z) = (eqZ-false z, refl)
     go (on n rest l) s = second (ltb most n) (ltb-false most n)
       where
-        second : (u : Bool) → (u ≡ false → n ≤ 512)
+        second : (u : Bool) → (u ≡ false → n ≤ most)
             → (counted (checked u (pos 11) n rest) .refusal ≡ pos 0 → ⊥)
             × (counted (checked u (pos 11) n (rest ++ t)) ≡ counted (checked u (pos 11) n rest))
         second true y = (eqZ-false {a = pos 11} {b = pos 0} refl, refl)

@@ -56,7 +56,7 @@ unfolding readDrawing readCount writeDrawing
 read-written l h =
     let f = listable l h in
     let n = countOf l in
-    simp (number-back n (writeObjects n l) (omega (arith, f .few)), le-ltb 512 n (f .few))
+    simp (number-back n (writeObjects n l) (omega (arith, f .few)), le-ltb most n (f .few))
     (objects-back n l (sym (f .whole)) (f .each))
 
 -- ---- read, and then written
@@ -85,16 +85,16 @@ objects-from (suc n) bs h e = go (object-from bs h) (sure-object bs) (objects-fr
         (ap (λ (l : List ℕ). writeObject o ++ l) (k .0) ∙ sym f, each-next o n (readObjects n rest .objects) p (k .1))
     go (not n) (sure.refused m z) behind e = absurd (eqZ-false z e)
 
-count-from : (bs : List ℕ) → Bytes bs → From writeNumber (λ n. n ≤ 512) bs (readCount bs)
+count-from : (bs : List ℕ) → Bytes bs → From writeNumber (λ n. n ≤ most) bs (readCount bs)
 unfolding readCount
 count-from bs h = go (number-from bs h)
   where
     go : {r : Reading ℕ} → From writeNumber (λ n. n < numberLimit) bs r
-        → From writeNumber (λ n. n ≤ 512) bs (next r (λ n rest. checked (ltb most n) (pos 11) n rest))
+        → From writeNumber (λ n. n ≤ most) bs (next r (λ n rest. checked (ltb most n) (pos 11) n rest))
     go (not n) = not n
     go (from n rest p e) = second (ltb most n) (ltb-false most n)
       where
-        second : (t : Bool) → (t ≡ false → n ≤ 512) → From writeNumber (λ n. n ≤ 512) bs (checked t (pos 11) n rest)
+        second : (t : Bool) → (t ≡ false → n ≤ most) → From writeNumber (λ n. n ≤ most) bs (checked t (pos 11) n rest)
         second true y = not (pos 11)
         second false y = from n rest (y refl) e
 
@@ -106,7 +106,7 @@ pub written-read : (bs : List ℕ) → Bytes bs → readDrawing bs .refusal ≡ 
 unfolding readDrawing writeDrawing
 written-read bs h e = go (count-from bs h) (sure-count bs) e
   where
-    go : {r : Reading ℕ} → From writeNumber (λ n. n ≤ 512) bs r → Sure bs r → counted r .refusal ≡ pos 0 → Again bs (counted r)
+    go : {r : Reading ℕ} → From writeNumber (λ n. n ≤ most) bs r → Sure bs r → counted r .refusal ≡ pos 0 → Again bs (counted r)
     go (from n rest p f) s e =
         let l = readObjects n rest .objects in
         let k = objects-from n rest (behind-bytes (writeNumber n) f h) e in

@@ -15,6 +15,7 @@ use lib.Dec.{ltb, eqb}
 use lib.IntN.{ℤ, pos, negsuc}
 use lib.ListN.{getD}
 use Rattle.whole.specs.Bound.{w-intro}
+use Rattle.sheet.specs.Limits.{reachSize}
 use Rattle.sheet.specs.Figure.{Vec}
 use Rattle.sheet.specs.Refusal.{beyond}
 use Rattle.sheet.specs.Flags.{flags}
@@ -122,7 +123,7 @@ zigzag-unzigzag n = go (eqb (n % 2) 0) (eqb-true (n % 2) 0) (eqb-false (n % 2) 0
     go true y m = let even = y refl in omega arith
     go false y m = let odd = m refl in omega arith
 
-beyond-small : (z : ℤ) → beyond z ≡ false → zigzag z ≤ 4000
+beyond-small : (z : ℤ) → beyond z ≡ false → zigzag z ≤ 2 * reachSize
 beyond-small z e = let f = simp flags at e in zigzag-small z (w-intro (f .0) (f .1) .within)
 
 abbrev pub writeCoordinate : ℤ → List ℕ

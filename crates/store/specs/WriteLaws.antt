@@ -16,6 +16,7 @@ use lib.Signed.{_<ℤ_, _≤ℤ_}
 use lib.ListN.{length, length-append}
 use Rattle.whole.specs.Tests.{eqZ}
 use Rattle.sheet.specs.declared.Object.{Object}
+use Rattle.sheet.specs.Limits.{reachSize}
 use Rattle.sheet.specs.Figure.{Side, left, bottom, right, top}
 use Rattle.sheet.specs.Refusal.{objectRefusal}
 use Rattle.sheet.specs.RefusalLaws.{Proper, Taken, a-segment, a-ray, a-line, a-side, accepted-taken, sideNumber}
@@ -63,16 +64,16 @@ pub zigzag-else : (z : ℤ) → pos 0 ≤ℤ z → 2 * natAbs z ≡ zigzag z
 zigzag-else (pos n) h = refl
 zigzag-else (negsuc n) h = absurd (h .le)
 
-pub zigzag-small : (z : ℤ) → natAbs z ≤ 2000 → zigzag z ≤ 4000
+pub zigzag-small : (z : ℤ) → natAbs z ≤ reachSize → zigzag z ≤ 2 * reachSize
 zigzag-small (pos n) h = omega arith
 zigzag-small (negsuc n) h = omega arith
 
 -- ---- accepted objects
 
-is-small : (n : ℕ) {z : ℤ} → z ≡ pos n → n ≤ 2000 → natAbs z ≤ 2000
-is-small n e h = subst (λ (x : ℤ). natAbs x ≤ 2000) (sym e) h
+is-small : (n : ℕ) {z : ℤ} → z ≡ pos n → n ≤ reachSize → natAbs z ≤ reachSize
+is-small n e h = subst (λ (x : ℤ). natAbs x ≤ reachSize) (sym e) h
 
-side-small : (n : Side) → natAbs (sideNumber n) ≤ 2000
+side-small : (n : Side) → natAbs (sideNumber n) ≤ reachSize
 side-small left = omega arith
 side-small bottom = omega arith
 side-small right = omega arith
@@ -81,7 +82,7 @@ side-small top = omega arith
 pub accepted-bounded : (o : Object) → objectRefusal o ≡ pos 0 → Bounded o
 accepted-bounded o e = go (accepted-taken (record { accepted = e }))
   where
-    pair : (n : ℕ) → n ≤ 2000 → o .kind ≡ pos n → Proper (record { x = o .px; y = o .py }) (record { x = o .qx; y = o .qy }) → Bounded o
+    pair : (n : ℕ) → n ≤ reachSize → o .kind ≡ pos n → Proper (record { x = o .px; y = o .py }) (record { x = o .qx; y = o .qy }) → Bounded o
     pair n h k p =
         record {
           kind = is-small n k h;
@@ -101,7 +102,7 @@ accepted-bounded o e = go (accepted-taken (record { accepted = e }))
         record {
           kind = is-small 4 k (omega arith);
           rest = record {
-            px = subst (λ (x : ℤ). natAbs x ≤ 2000) (sym (s .number)) (side-small (s .which));
+            px = subst (λ (x : ℤ). natAbs x ≤ reachSize) (sym (s .number)) (side-small (s .which));
             py = is-small 0 (s .rest .0) (omega arith);
             qx = is-small 0 (s .rest .1) (omega arith);
             qy = is-small 0 (s .rest .2) (omega arith);

@@ -7,6 +7,7 @@ ghost use Prim.Native.Nat.{_<_, _≤_, _+_};
 ghost use lib.IntN.{natAbs};
 ghost use lib.ListN.{length};
 ghost use lib.Seq.{sets};
+ghost use Rattle.sheet.specs.Limits.{reachSize};
 ghost use Rattle.sheet.specs.Lent.{Wrote};
 ghost use Rattle.sheet.specs.Lists.{width, countOf, objectFrom};
 ghost use Rattle.sheet.specs.ListsLaws.{Listable};
@@ -39,7 +40,7 @@ pub(crate) fn number_size(n: u64) -> usize
 
 // What is stored for a coordinate.
 pub(crate) fn stored(z: i64) -> u64
-    requires { ⌜ natAbs z ≤ 2000 ⌝ }
+    requires { ⌜ natAbs z ≤ reachSize ⌝ }
     ensures { λ r. ⌜ r ≡ zigzag z ⌝ }
 {
     let size = whole::size(z);
@@ -50,7 +51,7 @@ pub(crate) fn stored(z: i64) -> u64
 }
 
 pub(crate) fn point_size(x: i64, y: i64) -> usize
-    requires { ⌜ (natAbs x ≤ 2000) × (natAbs y ≤ 2000) ⌝ }
+    requires { ⌜ (natAbs x ≤ reachSize) × (natAbs y ≤ reachSize) ⌝ }
     ensures { λ r. ⌜ r ≡ length (writePoint x y) ⌝ }
 {
     number_size(stored(x)) + number_size(stored(y))
@@ -91,7 +92,7 @@ pub(crate) fn write_number(out: &mut [u8], at: usize, n: u64) -> usize
 }
 
 pub(crate) fn write_point(out: &mut [u8], at: usize, x: i64, y: i64) -> usize
-    requires { ⌜ (natAbs x ≤ 2000) × (natAbs y ≤ 2000) × (at + length (writePoint x y) ≤ length (now out)) ⌝ }
+    requires { ⌜ (natAbs x ≤ reachSize) × (natAbs y ≤ reachSize) × (at + length (writePoint x y) ≤ length (now out)) ⌝ }
     ensures { λ r. ⌜ Wrote (now (out .entry)) (now (out .exit)) at r (writePoint x y) ⌝ }
 {
     let first = stored(x);

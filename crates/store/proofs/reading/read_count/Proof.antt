@@ -3,6 +3,7 @@ use borrow.Author.Needs.{needs}
 use mathlib.Core.Path.{refl, _∙_}
 use native.Mathlib.Omega.{arith}
 use borrow.Author.Tests.{lt-ltb, le-ltb}
+use Rattle.sheet.specs.Limits.{most}
 use Rattle.store.specs.Stored.{readCount}
 use Rattle.store.specs.TellsLaws.{on-refused, on-taken, tells-taken, tells-refused}
 use Rattle.store.proofs.reading.read_count.Statement.{statement}
@@ -22,14 +23,14 @@ unfolding readCount
 returns-2 c =
     let s = c .before .before .before in
     let number = on-taken (s .read-number .ensures .0) (c .before .before .struct-told .given .0 .1) _ (c .before .if1 .left) in
-    (tells-refused refl (number ∙ simp (lt-ltb 512 (s .read-number .result .value) (c .if2 .taken))), omega arith)
+    (tells-refused refl (number ∙ simp (lt-ltb most (s .read-number .result .value) (c .if2 .taken))), omega arith)
 
 returns-3 : tie.Need-returns-3
 unfolding readCount
 returns-3 c =
     let s = c .before .before .before in
     let number = on-taken (s .read-number .ensures .0) (c .before .before .struct-told .given .0 .1) _ (c .before .if1 .left) in (
-      tells-taken (number ∙ simp (le-ltb 512 (s .read-number .result .value) (c .if2 .left)))
+      tells-taken (number ∙ simp (le-ltb most (s .read-number .result .value) (c .if2 .left)))
           (s .read-number .ensures .0 .within),
       omega arith,
     )
