@@ -2,12 +2,11 @@
 --   place-one       no two places say the same
 --   corner-side     the side of a corner begins there;  side-where   a frame point is on its side, and not where that side ends
 --   side-only       and it is so of no other side
+--   sideBy          `sideWhere` by the flags of the four sides
 --   Placed, placed  the place of a point, with the error of each of its values
 --   Ratios, ratios  the numbers of a point that are divided are within the limits
 --   alongNumber, along-is   the coordinate along a side, by the side's number
---   not-refused     what is not refused is a point
 --   flat-standard, full-frame   a point is standard where mx and my are 0, and not elsewhere;  frame-standard   not on the frame
---   side-first, .. side-fourth  `sideWhere` by its tests in turn
 -- Assumes nothing.
 use mathlib.Core.Path.{_≡_, refl, sym, _∙_, ap, ap₂}
 use mathlib.Core.Logic.{_⊎_, inl, inr}
@@ -23,8 +22,8 @@ use Rattle.sheet.specs.declared.Point.{Point}
 use Rattle.sheet.specs.Figure.{Side, left, bottom, right, top}
 use Rattle.sheet.specs.Ends.{begins}
 use Rattle.sheet.specs.Flags.{both, not-both}
-use Rattle.sheet.specs.Points.{size, standard, isPoint, pointRefusal}
-use Rattle.sheet.specs.PointsLaws.{Standard, OnEdge, Frame, APoint, a-standard, a-frame, point-sizes, standard-is, point-is}
+use Rattle.sheet.specs.Points.{size, standard}
+use Rattle.sheet.specs.PointsLaws.{Standard, OnEdge, Frame, APoint, a-standard, a-frame, point-sizes, standard-is}
 use Rattle.sheet.specs.RefusalLaws.{sideNumber}
 use Rattle.screen.specs.declared.Place.{Place}
 use Rattle.screen.specs.declared.Place.the-variants.{At, Edge, Refused}
@@ -65,8 +64,8 @@ corner-side right = refl
 corner-side top = refl
 
 -- by the flags of the four sides
-abbrev pick : Bool → Bool → Bool → Bool → Side
-pick l b r t = cond (l && not b) left (cond (b && not r) bottom (cond (r && not t) right top))
+abbrev pub sideBy : Bool → Bool → Bool → Bool → Side
+sideBy l b r t = cond (l && not b) left (cond (b && not r) bottom (cond (r && not t) right top))
 
 abbrev goes : Side → Bool → Bool → Bool → Bool → Bool
 goes left l b r t = l && not b
@@ -78,7 +77,7 @@ abbrev Some : Bool → Bool → Bool → Bool → Type 0
 Some l b r t = ((l ≡ true) ⊎ (r ≡ true)) ⊎ ((b ≡ true) ⊎ (t ≡ true))
 
 -- on some side, and on no two that lie opposite
-picked : (l b r t : Bool) → Some l b r t → (l ≡ true → r ≡ false) → (b ≡ true → t ≡ false) → goes (pick l b r t) l b r t ≡ true
+picked : (l b r t : Bool) → Some l b r t → (l ≡ true → r ≡ false) → (b ≡ true → t ≡ false) → goes (sideBy l b r t) l b r t ≡ true
 picked true false r t some lr bt = refl
 picked true true false t some lr bt = refl
 picked true true true t some lr bt = absurd (true≢false (lr refl))
@@ -97,7 +96,7 @@ picked false false false false some lr bt = absurd (nowhere some)
     nowhere (inr (inr e)) = true≢false (sym e)
 
 -- and there is no other
-only : (s : Side) (l b r t : Bool) → (l ≡ true → r ≡ false) → (b ≡ true → t ≡ false) → goes s l b r t ≡ true → pick l b r t ≡ s
+only : (s : Side) (l b r t : Bool) → (l ≡ true → r ≡ false) → (b ≡ true → t ≡ false) → goes s l b r t ≡ true → sideBy l b r t ≡ s
 only left true false r t lr bt e = refl
 only left true true r t lr bt e = absurd (true≢false (sym e))
 only left false b r t lr bt e = absurd (true≢false (sym e))
@@ -157,7 +156,7 @@ module _ {p : Point} (f : Frame p) where
   pub side-where : goesTo (sideWhere p) p ≡ true
   unfolding sideWhere
   side-where =
-      goes-is (pick (isOn left p) (isOn bottom p) (isOn right p) (isOn top p)) p
+      goes-is (sideBy (isOn left p) (isOn bottom p) (isOn right p) (isOn top p)) p
       ∙ picked (isOn left p) (isOn bottom p) (isOn right p) (isOn top p) (some (f .on-edge)) not-opposite-x not-opposite-y
     where
       some : OnEdge (p .mx) (p .nx) (p .w) ⊎ OnEdge (p .my) (p .ny) (p .w)
@@ -169,23 +168,6 @@ module _ {p : Point} (f : Frame p) where
   unfolding sideWhere
   side-only s e =
       only s (isOn left p) (isOn bottom p) (isOn right p) (isOn top p) not-opposite-x not-opposite-y (sym (goes-is s p) ∙ e)
-
-module _ (p : Point) where
-  pub side-first : goesTo left p ≡ true → sideWhere p ≡ left
-  unfolding sideWhere
-  side-first e = simp e
-
-  pub side-second : goesTo left p ≡ false → goesTo bottom p ≡ true → sideWhere p ≡ bottom
-  unfolding sideWhere
-  side-second e f = simp (e, f)
-
-  pub side-third : goesTo left p ≡ false → goesTo bottom p ≡ false → goesTo right p ≡ true → sideWhere p ≡ right
-  unfolding sideWhere
-  side-third e f g = simp (e, f, g)
-
-  pub side-fourth : goesTo left p ≡ false → goesTo bottom p ≡ false → goesTo right p ≡ false → sideWhere p ≡ top
-  unfolding sideWhere
-  side-fourth e f g = simp (e, f, g)
 
 -- ---- the coordinate along a side, by its number
 
@@ -227,15 +209,6 @@ frame-standard {p} f = full-frame p (frame-moves f)
 pub flat-standard : {p : Point} → APoint p → p .mx ≡ pos 0 → p .my ≡ pos 0 → standard p ≡ true
 flat-standard {p} (a-standard s e) ex ey = standard-is p .1 s
 flat-standard (a-frame f e) ex ey = absurd (frame-moves f ex ey)
-
--- what is not refused is a point
-pub not-refused : {p : Point} → pointRefusal p ≡ pos 0 → APoint p
-unfolding pointRefusal
-not-refused {p} h = go (isPoint p) (λ e. point-is p .0 e) h
-  where
-    go : (t : Bool) → (t ≡ true → APoint p) → cond t (pos 0) (pos 5) ≡ pos 0 → APoint p
-    go true f e = f refl
-    go false f e = let z = ap natAbs e in absurd (omega arith)
 
 -- ---- the values of a place
 

@@ -2,11 +2,11 @@ use mathlib.Core.Path.{_≡_, sym, _∙_, ap, subst}
 use lib.IntN.{pos}
 use Rattle.whole.specs.Bound.{fits64, w-pos}
 use Rattle.whole.specs.Tests.{fits-ok, eq-taken}
-use Rattle.sheet.specs.PointsLaws.{APoint}
+use Rattle.sheet.specs.PointsLaws.{APoint, point-is}
+use Rattle.sheet.specs.AcceptsLaws.{point-taken}
 use Rattle.kernel.proofs.Handed as handed
 use Rattle.screen.specs.Places.{placeOf}
 use Rattle.screen.specs.ToldLaws.{told-refused, told-accepted}
-use Rattle.screen.specs.PlacesLaws.{not-refused}
 use borrow.Author.Needs.{needs}
 use Rattle.screen.proofs.places.place_of.Statement.{statement}
 use Rattle.screen.proofs.places.place_of.Tie as tie
@@ -28,7 +28,7 @@ point-place-requires c κs =
     let p = e .before .before .args .p in
     let t = c .before .before .before .before .struct-told .given in
     subst APoint (sym (handed.point p (t .0 .1) (t .1 .0 .1) (t .1 .1 .0 .1) (t .1 .1 .1 .0 .1) (t .1 .1 .1 .1 .0 .1)))
-    (not-refused (sym (e .before .check-point .ensures) ∙ none e))
+    (point-is p .0 (point-taken p (sym (e .before .check-point .ensures) ∙ none e)))
 
 returns-2 : tie.Need-returns-2
 returns-2 c =
