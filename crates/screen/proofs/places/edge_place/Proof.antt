@@ -15,18 +15,12 @@ use Rattle.screen.proofs.places.edge_place.Tie as tie
 abbrev point : tie.Start → Point
 point s = record { mx = s .args .mx; nx = s .args .nx; my = s .args .my; ny = s .args .ny; w = s .args .w }
 
--- the point as it is handed on is the point
-same :
-    (s : tie.Start) →
-    _≡_ {A = Point}
-    (record { mx = out (s .args .mx); nx = out (s .args .nx); my = out (s .args .my); ny = out (s .args .ny); w = out (s .args .w) })
-    (point s)
-same s = handed.point (point s) (s .fits .mx .sfits) (s .fits .nx .sfits) (s .fits .my .sfits) (s .fits .ny .sfits) (s .fits .w .sfits)
-
 number : (c : tie.After-side-number) → out (c .side-number .result) ≡ sideNumber (sideWhere (point (c .before)))
 number c =
+    let s = c .before in
     let r = c .side-number in
-    out-ok (r .result) (r .ok) ∙ r .ensures ∙ (λ i. sideNumber (sideWhere (same (c .before) i)))
+    let p = handed.point (point s) (s .fits .mx .sfits) (s .fits .nx .sfits) (s .fits .my .sfits) (s .fits .ny .sfits) (s .fits .w .sfits) in
+    out-ok (r .result) (r .ok) ∙ r .ensures ∙ (λ i. sideNumber (sideWhere (p i)))
 
 side-number-requires : tie.Need-side-number-requires
 side-number-requires c κs = search needs

@@ -5,7 +5,7 @@ use lib.IntN.{pos}
 use lib.Dec.{eqb}
 use mir.Syntax.{w64}
 use mir.Val.{ofZ}
-use Rattle.whole.specs.Tests.{eqZ, eqZ-true, eqZ-false, eq-eqZ, out, out-is, lit-flag}
+use Rattle.whole.specs.Tests.{eqZ, eqZ-true, eqZ-false, eq-eqZ, out-is, lit-flag}
 use Rattle.sheet.specs.declared.Point.{Point}
 use Rattle.sheet.specs.Flags.{both, not-both}
 use Rattle.sheet.specs.Points.{standard}
@@ -19,14 +19,6 @@ use Rattle.screen.proofs.places.point_place.Tie as tie
 
 abbrev point : tie.Start → Point
 point s = record { mx = s .args .mx; nx = s .args .nx; my = s .args .my; ny = s .args .ny; w = s .args .w }
-
--- the point as it is handed on is the point
-same :
-    (s : tie.Start) →
-    _≡_ {A = Point}
-    (record { mx = out (s .args .mx); nx = out (s .args .nx); my = out (s .args .my); ny = out (s .args .ny); w = out (s .args .w) })
-    (point s)
-same s = handed.point (point s) (s .fits .mx .sfits) (s .fits .nx .sfits) (s .fits .my .sfits) (s .fits .ny .sfits) (s .fits .w .sfits)
 
 flat :
     (s : tie.Start) →
@@ -67,7 +59,8 @@ returns-2 : tie.Need-returns-2
 unfolding placeOf
 returns-2 c =
     let s = c .before .before in
-    c .edge-place .ensures ∙ (λ i. edgeOf (same s i))
+    c .edge-place .ensures
+    ∙ ap edgeOf (handed.point (point s) (s .fits .mx .sfits) (s .fits .nx .sfits) (s .fits .my .sfits) (s .fits .ny .sfits) (s .fits .w .sfits))
     ∙ sym (ap (λ (t : Bool). cond t (positionOf (point s)) (edgeOf (point s))) (is-frame (c .before)))
 
 pub point-place-spec : {M : Type 1} → statement M
