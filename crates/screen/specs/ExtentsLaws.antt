@@ -26,6 +26,7 @@ use Rattle.screen.specs.declared.Extent.{Extent}
 use Rattle.screen.specs.declared.Boxed.{Boxed}
 use Rattle.screen.specs.declared.Boxed.the-variants.{Around, Refused}
 use Rattle.screen.specs.Told.{Told}
+use Rattle.screen.specs.ToldLaws.{as-many}
 use Rattle.screen.specs.Lists.{nextObjects}
 use Rattle.screen.specs.Extents.{standardEnds, endsOf, beyond, farther, part, farthest, extreme, isNone, flag, extentSays, boxedSays}
 
@@ -51,8 +52,8 @@ extent-one a b e =
 
 pub box-one : (r s : Boxed) → boxedSays r ≡ boxedSays s → r ≡ s
 box-one (Around a) (Around b) e = ap Around (extent-one a b e)
-box-one (Around a) (Refused n) e = let f = ap (λ (t : Told). t .floats) e in let z : _≡_ {A = ℕ} 0 1 = cc in absurd (omega arith)
-box-one (Refused n) (Around b) e = let f = ap (λ (t : Told). t .floats) e in let z : _≡_ {A = ℕ} 0 1 = cc in absurd (omega arith)
+box-one (Around a) (Refused n) e = let z = as-many e in absurd (omega arith)
+box-one (Refused n) (Around b) e = let z = as-many e in absurd (omega arith)
 box-one (Refused n) (Refused m) e = let f = ap (λ (t : Told). t .wholes) e in let z : n ≡ m = cc in ap Refused z
 
 -- ---- one more object

@@ -1,11 +1,9 @@
-use mathlib.Core.Path.{_≡_, sym, _∙_, ap}
+use mathlib.Core.Path.{_∙_, ap}
 use mathlib.Core.List.{List}
-use lib.IntN.{ℤ, pos}
-use Rattle.whole.specs.Bound.{fits64, w-pos}
-use Rattle.whole.specs.Tests.{fits-ok, eq-taken}
+use lib.IntN.{ℤ}
+use Rattle.whole.specs.Tests.{fits-ok}
 use Rattle.screen.specs.Told.{Told}
-use Rattle.screen.specs.ToldLaws.{told-refused, told-accepted}
-use Rattle.sheet.specs.Lists.{listRefusal}
+use Rattle.screen.specs.ToldLaws.{none-refused, told-refused, told-accepted}
 use Rattle.screen.specs.Lists.{objectsOf}
 use Rattle.screen.specs.Extents.{endsOf, extentOf, extentSays}
 use borrow.Author.Needs.{needs}
@@ -14,11 +12,6 @@ use Rattle.screen.proofs.extents.box_of.Tie as tie
 
 abbrev told : List ℤ → Told
 told l = extentSays (extentOf (endsOf (objectsOf l)))
-
-none : (c : tie.Else1) → listRefusal (c .before .before .args .list .now) ≡ pos 0
-none c =
-    let r = c .before .list-refusal in
-    sym (r .ensures) ∙ eq-taken (fits-ok (r .result) (r .ok)) (fits64 (w-pos 0) tt) (c .if1 .left)
 
 list-refusal-requires : tie.Need-list-refusal-requires
 list-refusal-requires c κs = search needs
@@ -29,7 +22,7 @@ returns c =
     told-refused (told (c .before .before .args .list .now)) (fits-ok (r .result) (r .ok)) (r .ensures) (c .if1 .taken)
 
 extent-requires : tie.Need-extent-requires
-extent-requires c κs = none c
+extent-requires c κs = let r = c .before .list-refusal in none-refused (fits-ok (r .result) (r .ok)) (r .ensures) (c .if1 .left)
 
 returns-2 : tie.Need-returns-2
 returns-2 c =

@@ -1,18 +1,13 @@
-use mathlib.Core.Path.{_≡_, sym, _∙_, ap, subst}
-use lib.IntN.{pos}
-use Rattle.whole.specs.Bound.{fits64, w-pos}
-use Rattle.whole.specs.Tests.{fits-ok, eq-taken}
+use mathlib.Core.Path.{sym, _∙_, ap, subst}
+use Rattle.whole.specs.Tests.{fits-ok}
 use Rattle.sheet.specs.PointsLaws.{APoint, point-is}
 use Rattle.sheet.specs.AcceptsLaws.{point-taken}
 use Rattle.kernel.proofs.Handed as handed
 use Rattle.screen.specs.Places.{placeOf}
-use Rattle.screen.specs.ToldLaws.{told-refused, told-accepted}
+use Rattle.screen.specs.ToldLaws.{none-refused, told-refused, told-accepted}
 use borrow.Author.Needs.{needs}
 use Rattle.screen.proofs.places.place_of.Statement.{statement}
 use Rattle.screen.proofs.places.place_of.Tie as tie
-
-none : (c : tie.Else1) → c .before .check-point .result ≡ pos 0
-none c = let r = c .before .check-point in eq-taken (fits-ok (r .result) (r .ok)) (fits64 (w-pos 0) tt) (c .if1 .left)
 
 check-point-requires : tie.Need-check-point-requires
 check-point-requires c κs = search needs
@@ -25,10 +20,11 @@ returns c =
 point-place-requires : tie.Need-point-place-requires
 point-place-requires c κs =
     let e = c .before .before .before .before .before in
+    let r = e .before .check-point in
     let p = e .before .before .args .p in
     let t = c .before .before .before .before .struct-told .given in
     subst APoint (sym (handed.point p (t .0 .1) (t .1 .0 .1) (t .1 .1 .0 .1) (t .1 .1 .1 .0 .1) (t .1 .1 .1 .1 .0 .1)))
-    (point-is p .0 (point-taken p (sym (e .before .check-point .ensures) ∙ none e)))
+    (point-is p .0 (point-taken p (none-refused (fits-ok (r .result) (r .ok)) (r .ensures) (e .if1 .left))))
 
 returns-2 : tie.Need-returns-2
 returns-2 c =
