@@ -1,6 +1,6 @@
 -- "A whole sheet's box is a pair of positions, lowest and highest x and y over its standard ends; with none, all four are +0 and a flag
 -- says so." The lowest and the highest are found over whole numbers.
-use mathlib.Core.Bool.{Bool, true, false, cond, not, _&&_, _||_}
+use mathlib.Core.Bool.{Bool, true, false, cond}
 use mathlib.Core.List.{List, [], _∷_, _++_}
 use Prim.Native.Nat.{ℕ, zero, suc}
 use lib.IntN.{ℤ, pos}
@@ -30,7 +30,7 @@ endsOf (o ∷ os) = standardEnds (figure o) ++ endsOf os
 
 -- b lies beyond a: above it where up is true, else below it
 abbrev pub beyond : Bool → ℤ → ℤ → Bool
-beyond up a b = (up && ltZ a b) || (not up && ltZ b a)
+beyond up a b = cond up (ltZ a b) (ltZ b a)
 
 abbrev pub farther : Bool → ℤ → ℤ → ℤ
 farther up a b = cond (beyond up a b) b a

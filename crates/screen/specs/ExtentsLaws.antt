@@ -1,18 +1,18 @@
 -- The laws of the box. To cite:
 --   box-one                    no two answers say the same
---   stepped, ends-step         the farthest so far with the standard ends of one more object, by its numbers
---   AllSmall, ends-small         the standard ends of accepted objects are within 2,000
---   beyondAll, from-beyond     a number beyond all coordinates to begin with; extreme-within
---   Among, extreme-met, extreme-none-beyond   a lowest or highest coordinate is one of a standard end's, and no end is beyond it
---   Surrounds, surrounds       so for all four
+--   part-at                    a coordinate of a place, by where its two numbers stand in a list
+--   stepped, steppedBy, ends-step   the farthest so far with the standard ends of one more object: by its numbers, by flags of its kind
+--   AllSmall, ends-small       the standard ends of accepted objects are within 2,000
+--   beyondAll, from-beyond     a number beyond all coordinates to begin with
+--   extreme-within             the lowest and the highest are within 2,000
+--   no-end, some-end           whether there is a standard end, by the lowest x
 -- Assumes nothing.
 use mathlib.Core.Path.{_≡_, refl, sym, _∙_, ap, subst}
-use mathlib.Core.Bool.{Bool, true, false, cond, _||_, true≢false}
+use mathlib.Core.Bool.{Bool, true, false, cond, true≢false}
 use mathlib.Core.List.{List, [], _∷_, _++_}
 use Prim.Native.Nat.{ℕ, zero, suc, _+_, _<_}
 use native.Mathlib.Omega.{arith}
 use lib.IntN.{ℤ, pos, negsuc, natAbs}
-use lib.ListN.{getD}
 use lib.Signed.{_<ℤ_}
 use Rattle.whole.specs.Bound.{Within, w-upper, w-lower, w-lit, w-pos}
 use Rattle.whole.specs.Order.{≤-<-trans, <-≤-trans}
@@ -20,7 +20,7 @@ use Rattle.whole.specs.Tests.{eqZ, cond-by, lt-ltZ}
 use Rattle.sheet.specs.declared.Object.{Object}
 use Rattle.sheet.specs.Figure.{Vec, Figure, segment, ray, line, side, sideOf, first, second, figure}
 use Rattle.sheet.specs.Refusal.{Accepted}
-use Rattle.sheet.specs.Lists.{objectFrom, objectAt}
+use Rattle.sheet.specs.Lists.{number, objectAt}
 use Rattle.sheet.specs.RefusalLaws.{Small, Taken, a-segment, a-ray, a-line, a-side, accepted-taken}
 use Rattle.screen.specs.declared.Extent.{Extent}
 use Rattle.screen.specs.declared.Boxed.{Boxed}
@@ -58,28 +58,24 @@ box-one (Refused n) (Refused m) e = let f = ap (λ (t : Told). t .wholes) e in l
 
 -- ---- one more object
 
-module _ (l : List ℤ) (at : ℕ) where
-  pub first-part : (axis : ℕ) → axis < 2 → getD l (at + 1 + axis) (pos 0) ≡ part axis (first (objectFrom l at))
-  first-part zero h = ap (λ (k : ℕ). getD l k (pos 0)) (omega arith)
-  first-part (suc zero) h = ap (λ (k : ℕ). getD l k (pos 0)) (omega arith)
-  first-part (suc (suc n)) h = absurd (omega arith)
+pub part-at :
+    (l : List ℤ) (at k axis : ℕ) → axis < 2
+    → number l (at + k + axis) ≡ part axis (record { x = number l (at + k); y = number l (at + (k + 1)) })
+part-at l at k zero h = ap (number l) (omega arith)
+part-at l at k (suc zero) h = ap (number l) (omega arith)
+part-at l at k (suc (suc n)) h = absurd (omega arith)
 
-  pub second-part : (axis : ℕ) → axis < 2 → getD l (at + 3 + axis) (pos 0) ≡ part axis (second (objectFrom l at))
-  second-part zero h = ap (λ (k : ℕ). getD l k (pos 0)) (omega arith)
-  second-part (suc zero) h = ap (λ (k : ℕ). getD l k (pos 0)) (omega arith)
-  second-part (suc (suc n)) h = absurd (omega arith)
+abbrev pub steppedBy : Bool → ℤ → ℤ → ℤ → Bool → Bool → ℤ
+steppedBy up z p q s t = cond s (farther up (farther up z p) q) (cond t (farther up z p) z)
 
 abbrev pub stepped : Bool → ℤ → ℤ → ℤ → ℤ → ℤ
-stepped up z kind p q = cond (eqZ kind (pos 1)) (farther up (farther up z p) q) (cond (eqZ kind (pos 2)) (farther up z p) z)
+stepped up z kind p q = steppedBy up z p q (eqZ kind (pos 1)) (eqZ kind (pos 2))
 
--- the figure by the flags of the kinds, and what is then found
+-- the figure by the flags of the kinds
 abbrev figureBy : Object → Bool → Bool → Bool → Figure
 figureBy o s t u =
     cond s (segment (first o) (second o))
     (cond t (ray (first o) (second o)) (cond u (line (first o) (second o)) (side (sideOf (o .px)))))
-
-abbrev steppedBy : Bool → ℤ → ℤ → ℤ → Bool → Bool → ℤ
-steppedBy up z p q s t = cond s (farther up (farther up z p) q) (cond t (farther up z p) z)
 
 pub ends-step :
     (up : Bool) (axis : ℕ) (z : ℤ) (o : Object) (os : List Object) →
@@ -105,13 +101,16 @@ pub data AllSmall : List Vec → Type 0 where
 infixr 5 _also_
 also-small : (o : Object) (os : List Object) → Accepted o → AllSmall (endsOf os) → AllSmall (endsOf (o ∷ os))
 unfolding endsOf
-also-small o os h n = go (accepted-taken h) n
+also-small o os h n = go (accepted-taken h)
   where
-    go : Taken o → AllSmall (endsOf os) → AllSmall (standardEnds (figure o) ++ endsOf os)
-    go (a-segment k f p) n = subst (λ (g : Figure). AllSmall (standardEnds g ++ endsOf os)) (sym f) (p .small-p also p .small-q also n)
-    go (a-ray k f p) n = subst (λ (g : Figure). AllSmall (standardEnds g ++ endsOf os)) (sym f) (p .small-p also n)
-    go (a-line k f p) n = subst (λ (g : Figure). AllSmall (standardEnds g ++ endsOf os)) (sym f) n
-    go (a-side k s f) n = subst (λ (g : Figure). AllSmall (standardEnds g ++ endsOf os)) (sym f) n
+    is : {f : Figure} → figure o ≡ f → AllSmall (standardEnds f ++ endsOf os) → AllSmall (standardEnds (figure o) ++ endsOf os)
+    is e = subst (λ (g : Figure). AllSmall (standardEnds g ++ endsOf os)) (sym e)
+
+    go : Taken o → AllSmall (standardEnds (figure o) ++ endsOf os)
+    go (a-segment k e p) = is e (p .small-p also p .small-q also n)
+    go (a-ray k e p) = is e (p .small-p also n)
+    go (a-line k e p) = is e n
+    go (a-side k s e) = is e n
 
 pub ends-small : (l : List ℤ) (i n : ℕ) → ((k : ℕ) → k < i + n → Accepted (objectAt l k)) → AllSmall (endsOf (nextObjects l i n))
 unfolding nextObjects endsOf
@@ -131,7 +130,7 @@ beyondAll up = cond up (negsuc 2000) (pos 2001)
 first-taken : (up : Bool) {c : ℤ} → Within 2000 c → farther up (beyondAll up) c ≡ c
 first-taken true {c} h =
     let l : negsuc 2000 <ℤ negsuc 1999 = record { lt = tt } in
-    ap (λ (t : Bool). cond (t || false) c (negsuc 2000)) (lt-ltZ (<-≤-trans l (w-lower h)))
+    ap (λ (t : Bool). cond t c (negsuc 2000)) (lt-ltZ (<-≤-trans l (w-lower h)))
 first-taken false {c} h =
     let l : pos 2000 <ℤ pos 2001 = record { lt = tt } in
     ap (λ (t : Bool). cond t c (pos 2001)) (lt-ltZ (≤-<-trans (w-upper h) l))

@@ -6,9 +6,9 @@
 --   Surrounds, surrounds       so for all four sides of a box
 --   none-zero                  of no places the box is +0 four times, and the flag
 -- Assumes nothing.
-use mathlib.Core.Path.{_≡_, refl, sym, _∙_, ap₂, subst}
+use mathlib.Core.Path.{_≡_, refl, sym, ap₂, subst}
 use mathlib.Core.Logic.{_⊎_, inl, inr}
-use mathlib.Core.Bool.{Bool, true, false, cond, _||_, true≢false}
+use mathlib.Core.Bool.{Bool, true, false, cond, true≢false}
 use mathlib.Core.List.{List, [], _∷_}
 use Prim.Native.Nat.{ℕ}
 use lib.IntN.{ℤ}
@@ -149,21 +149,13 @@ farther-on : {up : Bool} {a b c : ℤ} → AtLeast up a b → AtLeast up b c →
 farther-on (not-above h) (not-above k) = not-above (≤-trans h k)
 farther-on (not-below h) (not-below k) = not-below (≤-trans k h)
 
-or-false : (t : Bool) → t || false ≡ t
-or-false true = refl
-or-false false = refl
-
 farther-first : (up : Bool) (a b : ℤ) → AtLeast up (farther up a b) a
 farther-first false a b = cond-by (λ (z : ℤ). AtLeast false z a) (ltZ b a) (λ e. not-above (<-≤ (ltZ-true e))) (λ e. as-far false a)
-farther-first true a b =
-    cond-by (λ (z : ℤ). AtLeast true z a) (ltZ a b || false) (λ e. not-below (<-≤ (ltZ-true (sym (or-false (ltZ a b)) ∙ e))))
-    (λ e. as-far true a)
+farther-first true a b = cond-by (λ (z : ℤ). AtLeast true z a) (ltZ a b) (λ e. not-below (<-≤ (ltZ-true e))) (λ e. as-far true a)
 
 farther-second : (up : Bool) (a b : ℤ) → AtLeast up (farther up a b) b
 farther-second false a b = cond-by (λ (z : ℤ). AtLeast false z b) (ltZ b a) (λ e. as-far false b) (λ e. not-above (ltZ-false e))
-farther-second true a b =
-    cond-by (λ (z : ℤ). AtLeast true z b) (ltZ a b || false) (λ e. as-far true b)
-    (λ e. not-below (ltZ-false (sym (or-false (ltZ a b)) ∙ e)))
+farther-second true a b = cond-by (λ (z : ℤ). AtLeast true z b) (ltZ a b) (λ e. as-far true b) (λ e. not-below (ltZ-false e))
 
 module _ (up : Bool) where
   farthest-start : (axis : ℕ) (z : ℤ) (vs : List Vec) → AtLeast up (farthest up axis z vs) z

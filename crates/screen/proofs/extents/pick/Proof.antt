@@ -1,10 +1,15 @@
-use mathlib.Core.Path.{_≡_, sym, _∙_, ap}
-use mathlib.Core.Bool.{Bool, cond, not, _&&_, _||_}
+use mathlib.Core.Path.{_≡_, refl, sym, _∙_, ap}
+use mathlib.Core.Bool.{Bool, true, false, cond, not, _&&_, _||_}
 use lib.Signed.{ltZ}
 use Rattle.whole.specs.Tests.{out, out-is}
 use Rattle.screen.specs.Extents.{beyond}
 use Rattle.screen.proofs.extents.pick.Statement.{statement}
 use Rattle.screen.proofs.extents.pick.Tie as tie
+
+one-or-other : (up s t : Bool) → (up && s) || (not up && t) ≡ cond up s t
+one-or-other true true t = refl
+one-or-other true false t = refl
+one-or-other false s t = refl
 
 test :
     (s : tie.Start) →
@@ -13,7 +18,7 @@ test :
 test s =
     let a = out-is (s .fits .a) in
     let b = out-is (s .fits .b) in
-    λ i. (s .args .up && ltZ (a i) (b i)) || (not (s .args .up) && ltZ (b i) (a i))
+    one-or-other (s .args .up) _ _ ∙ (λ i. beyond (s .args .up) (a i) (b i))
 
 returns : tie.Need-returns
 returns c =

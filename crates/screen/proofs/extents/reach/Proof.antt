@@ -13,7 +13,7 @@ use Rattle.sheet.specs.Lists.{width, objectFrom}
 use Rattle.screen.specs.Lists.{objectsOf}
 use Rattle.screen.specs.ListsLaws.{restFrom, rest-all, rest-at, rest-end}
 use Rattle.screen.specs.Extents.{endsOf, farthest}
-use Rattle.screen.specs.ExtentsLaws.{stepped, ends-step, first-part, second-part}
+use Rattle.screen.specs.ExtentsLaws.{part-at, stepped, ends-step}
 use Rattle.screen.proofs.extents.reach.Statement.{statement}
 use Rattle.screen.proofs.extents.reach.Tie as tie
 
@@ -86,8 +86,8 @@ loop-again c =
     let was = toZ w64 (at-loop .loop .far) in
     let r = c .step in
     let kind = out-ok (getD l at (pos 0)) (p .before .kind .given) in
-    let first = out-ok _ (p .p .given) ∙ first-part l at axis few in
-    let second = out-ok _ (c .before .q .given) ∙ second-part l at axis few in
+    let first = out-ok _ (p .p .given) ∙ part-at l at 1 axis few in
+    let second = out-ok _ (c .before .q .given) ∙ part-at l at 3 axis few in
     let far = out-ok (r .result) (r .ok) ∙ r .ensures
     ∙ (λ i. stepped (s .args .up) was (kind i) (first i) (second i)) in (
       omega arith,

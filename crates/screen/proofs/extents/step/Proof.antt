@@ -1,18 +1,16 @@
 use mathlib.Core.Path.{sym, _∙_, ap, ap₂}
-use mathlib.Core.Bool.{Bool, cond}
+use mathlib.Core.Bool.{Bool}
 use lib.IntN.{ℤ, pos}
 use Rattle.whole.specs.Bound.{fits64, w-pos}
 use Rattle.whole.specs.Tests.{eqZ, eq-eqZ, ne-eqZ, eq-taken, eq-left, out-is, out-ok}
 use Rattle.screen.specs.Extents.{farther}
+use Rattle.screen.specs.ExtentsLaws.{steppedBy}
 use borrow.Author.Needs.{needs}
 use Rattle.screen.proofs.extents.step.Statement.{statement}
 use Rattle.screen.proofs.extents.step.Tie as tie
 
--- the three choices, by the flags of the kind
 abbrev chosen : tie.Start → Bool → Bool → ℤ
-chosen s one two =
-    cond one (farther (s .args .up) (farther (s .args .up) (s .args .far) (s .args .p)) (s .args .q))
-    (cond two (farther (s .args .up) (s .args .far) (s .args .p)) (s .args .far))
+chosen s = steppedBy (s .args .up) (s .args .far) (s .args .p) (s .args .q)
 
 pick-requires : tie.Need-pick-requires
 pick-requires c κs = search needs
