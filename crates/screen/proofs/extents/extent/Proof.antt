@@ -12,8 +12,8 @@ use Rattle.screen.specs.Quotient.{float}
 use Rattle.sheet.specs.Lists.{width, countOf}
 use Rattle.sheet.specs.ListsLaws.{Listable, listable}
 use Rattle.screen.specs.Lists.{objectsOf}
-use Rattle.screen.specs.Extents.{endsOf, extreme, isNone, extentOf}
-use Rattle.screen.specs.ExtentsLaws.{AllSmall, ends-small, from-beyond, no-end, some-end, extreme-within}
+use Rattle.screen.specs.Extents.{endsOf, farthest, extreme, isNone, extentOf}
+use Rattle.screen.specs.ExtentsLaws.{AllSmall, ends-small, beyondAll, from-beyond, no-end, some-end, extreme-within}
 use borrow.Author.Needs.{needs}
 use Rattle.screen.proofs.extents.extent.Statement.{statement}
 use Rattle.screen.proofs.extents.extent.Tie as tie
@@ -38,6 +38,7 @@ some c =
     let r = c .before .reach in
     some-end (ends (c .before .before)) (λ z. eq-left {x = r .result} {y = pos 2001} (c .if1 .left) (r .ensures ∙ z))
 
+-- each of the four numbers that are found is the lowest or the highest
 module _ (c : tie.After-reach4) where
   abbrev s : tie.Start
   s = c .before .before .before .before .before
@@ -45,25 +46,20 @@ module _ (c : tie.After-reach4) where
   bound : (up : Bool) (axis : ℕ) → Within 2000 (extreme up axis (ends s))
   bound up axis = extreme-within up axis (ends s) (all-small s)
 
+  from : (up : Bool) (axis : ℕ) → farthest up axis (beyondAll up) (ends s) ≡ extreme up axis (ends s)
+  from up axis = from-beyond up axis (ends s) (all-small s) (some (c .before .before .before))
+
   lx : out (c .before .before .before .before .reach .result) ≡ extreme false 0 (ends s)
-  lx =
-      let r = c .before .before .before .before .reach in
-      out-ok (r .result) (r .ok) ∙ r .ensures ∙ from-beyond false 0 (ends s) (all-small s) (some (c .before .before .before))
+  lx = let r = c .before .before .before .before .reach in out-ok (r .result) (r .ok) ∙ r .ensures ∙ from false 0
 
   ly : out (c .before .before .reach2 .result) ≡ extreme false 1 (ends s)
-  ly =
-      let r = c .before .before .reach2 in
-      out-ok (r .result) (r .ok) ∙ r .ensures ∙ from-beyond false 1 (ends s) (all-small s) (some (c .before .before .before))
+  ly = let r = c .before .before .reach2 in out-ok (r .result) (r .ok) ∙ r .ensures ∙ from false 1
 
   hx : out (c .before .reach3 .result) ≡ extreme true 0 (ends s)
-  hx =
-      let r = c .before .reach3 in
-      out-ok (r .result) (r .ok) ∙ r .ensures ∙ from-beyond true 0 (ends s) (all-small s) (some (c .before .before .before))
+  hx = let r = c .before .reach3 in out-ok (r .result) (r .ok) ∙ r .ensures ∙ from true 0
 
   hy : out (c .reach4 .result) ≡ extreme true 1 (ends s)
-  hy =
-      let r = c .reach4 in
-      out-ok (r .result) (r .ok) ∙ r .ensures ∙ from-beyond true 1 (ends s) (all-small s) (some (c .before .before .before))
+  hy = let r = c .reach4 in out-ok (r .result) (r .ok) ∙ r .ensures ∙ from true 1
 
 add-above : tie.Need-add-above
 add-above c = search needs
