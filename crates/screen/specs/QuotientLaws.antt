@@ -1,7 +1,7 @@
 -- The quotient of two whole numbers as floats is the fraction, rounded once, and it is within one part in 2 ^ 53 of the fraction. To cite:
 --   quotient-near      `Near` of every quotient whose parts are within the limits of points
---   in-float, n-float, w-float   what a cast to f64 asks;  parts-out  the parts as they come out of locals
---   float-zero, float-exact      0 is +0; a whole number is a float exactly;  over-one  n / 1 is n as a float
+--   in-float, parts-out   what a cast to f64 asks of a number out of a local; the parts as they come out of locals
+--   float-zero, float-exact   0 is +0; a whole number is a float exactly;  over-one  n / 1 is n as a float
 -- Assumes nothing.
 use mathlib.Core.Path.{_≡_, refl, sym, ap, _∙_, subst}
 use mathlib.Core.Bool.{Bool, true, false, not, cond, true≢false}
@@ -20,7 +20,7 @@ use lib.Ieee.Order.{drop, kept}
 use lib.Ieee.Positive.{first-pos}
 use lib.Ieee.Scale.{round-same, grid, overflow, normal-of-fraction}
 use Rattle.whole.specs.Order.{pp-dest}
-use Rattle.whole.specs.Bound.{Within, w-lit, natAbs-neg}
+use Rattle.whole.specs.Bound.{Within, natAbs-neg}
 use Rattle.whole.specs.Tests.{out}
 use Rattle.whole.specs.Flat.{back}
 use Rattle.whole.specs.Reify.{reify, reading, solve}
@@ -82,23 +82,20 @@ round-value f s a c h =
 
 -- ---- `Close`, scaled
 
+spread : (x n d : ℕ) → x * d * 2 ^ 53 + n * d ≡ (x * 2 ^ 53 + n) * d
+spread x n d = sym (add-mul (x * 2 ^ 53) n d ∙ ap (λ (z : ℕ). z + n * d) (mul-right-comm x (2 ^ 53) d))
+
 module _ (x n d : ℕ) where
-  spread : n * d * 2 ^ 53 + n * d ≡ (n * 2 ^ 53 + n) * d
-  spread = sym (add-mul (n * 2 ^ 53) n d ∙ ap (λ (z : ℕ). z + n * d) (mul-right-comm n (2 ^ 53) d))
-
-  spread-x : x * d * 2 ^ 53 + n * d ≡ (x * 2 ^ 53 + n) * d
-  spread-x = sym (add-mul (x * 2 ^ 53) n d ∙ ap (λ (z : ℕ). z + n * d) (mul-right-comm x (2 ^ 53) d))
-
   close-mul : Close x n → Close (x * d) (n * d)
   close-mul h = (
-    le-trans (le-of-eq (mul-right-comm x d (2 ^ 53))) (le-trans (mul-le-mul-right d (h .0)) (le-of-eq (sym spread))),
-    le-trans (le-of-eq (mul-right-comm n d (2 ^ 53))) (le-trans (mul-le-mul-right d (h .1)) (le-of-eq (sym spread-x))),
+    le-trans (le-of-eq (mul-right-comm x d (2 ^ 53))) (le-trans (mul-le-mul-right d (h .0)) (le-of-eq (sym (spread n n d)))),
+    le-trans (le-of-eq (mul-right-comm n d (2 ^ 53))) (le-trans (mul-le-mul-right d (h .1)) (le-of-eq (sym (spread x n d)))),
   )
 
   close-cancel : 0 < d → Close (x * d) (n * d) → Close x n
   close-cancel D h = (
-    le-of-mul-le-mul-right (le-trans (le-of-eq (mul-right-comm x (2 ^ 53) d)) (le-trans (h .0) (le-of-eq spread))) D,
-    le-of-mul-le-mul-right (le-trans (le-of-eq (mul-right-comm n (2 ^ 53) d)) (le-trans (h .1) (le-of-eq spread-x))) D,
+    le-of-mul-le-mul-right (le-trans (le-of-eq (mul-right-comm x (2 ^ 53) d)) (le-trans (h .0) (le-of-eq (spread n n d)))) D,
+    le-of-mul-le-mul-right (le-trans (le-of-eq (mul-right-comm n (2 ^ 53) d)) (le-trans (h .1) (le-of-eq (spread x n d)))) D,
   )
 
 -- p / d is g / q, and g / q is close to a / w
@@ -238,18 +235,15 @@ over-one {n} h = quotient-is n 1 (h .within) (zero-lt-suc 0) (lit≤ tt) ∙ who
 
 -- ---- what a cast to f64 asks
 
-pub in-float : {n : ℤ} → Within (2 ^ 53) n → T (inFloat binary64 n)
+pub in-float : {n : ℤ} → Within (2 ^ 53) n → T (inFloat binary64 (out n))
 unfolding inFloat
-in-float {n = pos a} h = le→leb a (2 ^ 53) (h .within)
-in-float {n = negsuc a} h = lt→ltb a (2 ^ 53) (h .within)
+in-float {n} h = subst (λ (z : ℤ). T (inFloat binary64 z)) (sym (back h tt)) (go n (h .within))
+  where
+    go : (n : ℤ) → natAbs n ≤ 2 ^ 53 → T (inFloat binary64 n)
+    go (pos a) h = le→leb a (2 ^ 53) h
+    go (negsuc a) h = lt→ltb a (2 ^ 53) h
 
 -- the parts as they come out of locals
 pub parts-out : {n w : ℤ} → Parts n w → Parts (out n) (out w)
 parts-out {n} {w} p =
     subst (λ (z : ℤ). Parts z (out w)) (sym (back (p .in-n) tt)) (subst (Parts n) (sym (back (p .in-w .at-most) tt)) p)
-
-pub n-float : {n w : ℤ} → Parts n w → T (inFloat binary64 n)
-n-float p = in-float (w-lit (p .in-n) tt)
-
-pub w-float : {n w : ℤ} → Parts n w → T (inFloat binary64 w)
-w-float p = in-float (w-lit (p .in-w .at-most) tt)

@@ -1,7 +1,4 @@
-use mathlib.Core.Path.{sym, ap, subst}
-use lib.IntN.{ℤ}
-use lib.Dec.{T}
-use lib.Ieee.{binary64, inFloat}
+use mathlib.Core.Path.{ap}
 use Rattle.whole.specs.Bound.{w-lit}
 use Rattle.whole.specs.Flat.{back}
 use Rattle.screen.specs.Quotient.{float}
@@ -10,8 +7,7 @@ use Rattle.screen.proofs.quotient.exact.Statement.{statement}
 use Rattle.screen.proofs.quotient.exact.Tie as tie
 
 int-to-float-result : tie.Need-int-to-float-result
-int-to-float-result c =
-    subst (λ (z : ℤ). T (inFloat binary64 z)) (sym (back (c .before .pre) tt)) (in-float (w-lit (c .before .pre) tt))
+int-to-float-result c = in-float (w-lit (c .before .pre) tt)
 
 returns : tie.Need-returns
 unfolding float
