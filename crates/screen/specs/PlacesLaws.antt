@@ -6,7 +6,8 @@
 --   Placed, placed  the place of a point, with the error of each of its values
 --   Ratios, ratios  the numbers of a point that are divided are within the limits
 --   alongNumber, along-is   the coordinate along a side, by the side's number
---   flat-standard, full-frame   a point is standard where mx and my are 0, and not elsewhere;  frame-standard   not on the frame
+--   flat-is         a point is standard exactly where mx and my are 0;  frame-standard   on the frame it is not
+--   place-standard, place-frame   the place by whether the point is standard
 -- Assumes nothing.
 use mathlib.Core.Path.{_≡_, refl, sym, _∙_, ap, ap₂}
 use mathlib.Core.Logic.{_⊎_, inl, inr}
@@ -17,7 +18,7 @@ use lib.IntN.{ℤ, pos, negsuc, negℤ, natAbs}
 use lib.Signed.{_<ℤ_}
 use Rattle.whole.specs.Bound.{w-lit}
 use Rattle.whole.specs.Order.{pp-dest}
-use Rattle.whole.specs.Tests.{eqZ, eq-eqZ, eqZ-true}
+use Rattle.whole.specs.Tests.{eqZ, eq-eqZ, ne-eqZ, eqZ-true}
 use Rattle.sheet.specs.declared.Point.{Point}
 use Rattle.sheet.specs.Figure.{Side, left, bottom, right, top}
 use Rattle.sheet.specs.Ends.{begins}
@@ -197,19 +198,27 @@ frame-moves {p} f ex ey = go (f .on-edge)
     go (inl o) = full-above (f .slim .in-w .above) o ex
     go (inr o) = full-above (f .slim .in-w .above) o ey
 
-pub full-frame : (p : Point) → (p .mx ≡ pos 0 → p .my ≡ pos 0 → ⊥) → standard p ≡ false
-full-frame p n = go (standard p) (λ e. standard-is p .0 e)
+pub frame-standard : {p : Point} → Frame p → standard p ≡ false
+frame-standard {p} f = go (standard p) (λ e. standard-is p .0 e)
   where
     go : (t : Bool) → (t ≡ true → Standard p) → t ≡ false
-    go true f = let s = f refl in absurd (n (s .no-mx) (s .no-my))
-    go false f = refl
+    go true h = let s = h refl in absurd (frame-moves f (s .no-mx) (s .no-my))
+    go false h = refl
 
-pub frame-standard : {p : Point} → Frame p → standard p ≡ false
-frame-standard {p} f = full-frame p (frame-moves f)
+pub flat-is : {p : Point} → APoint p → eqZ (p .mx) (pos 0) && eqZ (p .my) (pos 0) ≡ standard p
+flat-is {p} (a-standard s e) =
+    both (eqZ (p .mx) (pos 0)) (eqZ (p .my) (pos 0)) .1 (eq-eqZ (s .no-mx), eq-eqZ (s .no-my)) ∙ sym (standard-is p .1 s)
+flat-is {p} (a-frame f e) =
+    not-both (eqZ (p .mx) (pos 0)) (eqZ (p .my) (pos 0)) .1 (λ k. ne-eqZ (frame-moves f (eqZ-true k))) ∙ sym (frame-standard f)
 
-pub flat-standard : {p : Point} → APoint p → p .mx ≡ pos 0 → p .my ≡ pos 0 → standard p ≡ true
-flat-standard {p} (a-standard s e) ex ey = standard-is p .1 s
-flat-standard (a-frame f e) ex ey = absurd (frame-moves f ex ey)
+module _ (p : Point) where
+  pub place-standard : standard p ≡ true → placeOf p ≡ positionOf p
+  unfolding placeOf
+  place-standard e = simp e
+
+  pub place-frame : standard p ≡ false → placeOf p ≡ edgeOf p
+  unfolding placeOf
+  place-frame e = simp e
 
 -- ---- the values of a place
 
@@ -244,12 +253,11 @@ pub data Placed (p : Point) : Type 0 where
       → Near (along (sideWhere p) p) (p .w) (quotient (along (sideWhere p) p) (p .w)) → Placed p
 
 pub placed : {p : Point} → APoint p → Placed p
-unfolding placeOf
 placed {p} (a-standard s e) =
     let r = ratios (a-standard s e) in
-    at-position s (ap (λ (t : Bool). cond t (positionOf p) (edgeOf p)) (standard-is p .1 s))
+    at-position s (place-standard p (standard-is p .1 s))
     (quotient-near (r .in-nx)) (quotient-near (r .in-ny))
 placed {p} (a-frame f e) =
     let r = ratios (a-frame f e) in
-    on-edge f (ap (λ (t : Bool). cond t (positionOf p) (edgeOf p)) (frame-standard f)) (side-where f)
+    on-edge f (place-frame p (frame-standard f)) (side-where f)
     (quotient-near (along-parts (sideWhere p) r))

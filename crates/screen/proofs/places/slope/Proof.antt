@@ -1,20 +1,14 @@
 use mathlib.Core.Path.{_≡_, sym, _∙_, ap, ap₂}
 use mathlib.Core.Bool.{Bool, cond, _||_}
-use lib.IntN.{pos}
 use lib.Dec.{eqb}
 use mir.Syntax.{w64}
 use mir.Val.{ofZ}
-use Rattle.whole.specs.Tests.{eqZ, out-is, lit-flag}
+use Rattle.whole.specs.Tests.{out-is, lit-flag}
 use Rattle.screen.specs.Quotient.{quotient}
 use Rattle.screen.specs.PlacesLaws.{alongNumber}
 use borrow.Author.Needs.{needs}
 use Rattle.screen.proofs.places.slope.Statement.{statement}
 use Rattle.screen.proofs.places.slope.Tie as tie
-
-upright :
-    (s : tie.Start) →
-    eqb (ofZ w64 (s .args .side)) 1 || eqb (ofZ w64 (s .args .side)) 3 ≡ eqZ (s .args .side) (pos 1) || eqZ (s .args .side) (pos 3)
-upright s = λ i. lit-flag 1 tt (s .fits .side) i || lit-flag 3 tt (s .fits .side) i
 
 ratio-requires : tie.Need-ratio-requires
 ratio-requires c κs = search needs
@@ -22,7 +16,9 @@ ratio-requires c κs = search needs
 -- what the flag chooses
 chosen : (s : tie.Start) {t : Bool} → eqb (ofZ w64 (s .args .side)) 1 || eqb (ofZ w64 (s .args .side)) 3 ≡ t
     → cond t (s .args .my) (s .args .mx) ≡ alongNumber (s .args .side) (s .args .mx) (s .args .my)
-chosen s e = sym (ap (λ (t : Bool). cond t (s .args .my) (s .args .mx)) (sym (upright s) ∙ e))
+chosen s e =
+    ap (λ (t : Bool). cond t (s .args .my) (s .args .mx))
+    (sym e ∙ (λ i. lit-flag 1 tt (s .fits .side) i || lit-flag 3 tt (s .fits .side) i))
 
 returns : tie.Need-returns
 returns c =
