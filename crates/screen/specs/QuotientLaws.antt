@@ -159,9 +159,6 @@ fine a h = lt-of-le-of-lt (le-of-eq (mul-right-comm a (2 ^ 1074) 2)) (shl-lt 102
 normal : (a w : ℕ) → 0 < a → w ≤ 32000000 → 2 ^ 52 * w ≤ a * 2 ^ 1074
 normal a w A h = le-trans (mul-le-mul-left (2 ^ 52) h) (le-trans (lit≤ tt) (mul-le-mul-right (2 ^ 1074) A))
 
-none : {n : ℤ} → 0 < natAbs n → n ≡ pos 0 → ⊥
-none {n} h e = not-zero (natAbs n) h (ap natAbs e)
-
 round-near : (n : ℤ) (w : ℕ) → 0 < natAbs n → natAbs n ≤ 64000000000 → 0 < w → w ≤ 32000000
     → Near n (pos w) (round binary64 (minus n) (natAbs n) w)
 round-near n w A h W l =
@@ -170,7 +167,7 @@ round-near n w A h W l =
     grid-close (a * 2 ^ 1074) w W (normal-of-fraction binary64 a w W (normal a w A l)) in
     let room = lt-of-le-of-lt (under-twice (grid binary64 a w) w (a * 2 ^ 1074) W c) (fine a h) in
     value-near (round binary64 (minus n) a w) n w (grid binary64 a w) (2 ^ 1074) (pow-pos 1074) (round-value binary64 (minus n) a w room) c
-    (λ e. absurd (none A e))
+    (λ e. absurd (not-zero a A (ap natAbs e)))
 
 -- ---- 0 / w
 
