@@ -1,7 +1,7 @@
 -- `item_at` meets its contract: after some calls at the start, what is left are the calls at the place reached. Assumes nothing.
 use borrow.Author.Needs.{needs}
-use mathlib.Core.Path.{_≡_, refl, sym, ap, _∙_}
-use Prim.Native.Nat.{ℕ, _-_}
+use mathlib.Core.Path.{_≡_, sym, ap, _∙_}
+use Prim.Native.Nat.{_-_}
 use native.Mathlib.Omega.{arith}
 use Rattle.store.specs.declared.Place.{Place}
 use Rattle.store.specs.declared.Stepped.{Stepped}
