@@ -6,28 +6,26 @@
 -- Assumes nothing.
 use mathlib.Core.Path.{_≡_, refl, ap, _∙_}
 use mathlib.Core.Logic.{_⊎_, inl, inr}
-use mathlib.Core.Bool.{Bool, true, false, cond, not, _||_}
+use mathlib.Core.Bool.{Bool, true, false, cond, _||_}
 use mathlib.Core.List.{List, _∷_}
-use Prim.Native.Nat.{ℕ, _+_, _*_, _<_}
+use Prim.Native.Nat.{ℕ, _+_}
 use native.Mathlib.Omega.{arith}
-use borrow.Author.Tests.{eqb-true, lt-ltb, ltb-true}
+use borrow.Author.Tests.{eqb-true}
 use lib.Dec.{eqb, ltb}
 use lib.IntN.{ℤ, pos, negsuc, natAbs, _+ℤ_}
-use lib.ListN.{length}
 use Rattle.whole.specs.Bound.{Within}
 use Rattle.whole.specs.Tests.{eqZ, eqZ-true, eqZ-false, cond-by}
 use Rattle.sheet.specs.Refusal.{beyond, objectRefusal}
 use Rattle.sheet.specs.Signs.{orElse, sideSign, sideSignRefusal}
 use Rattle.sheet.specs.SignsLaws.{side-sign-within}
 use Rattle.sheet.specs.AnswersLaws.{or-zero}
-use Rattle.sheet.specs.Lists.{width}
-use Rattle.sheet.specs.Flags.{neither, either, isnt-not, cond-zero}
-use Rattle.store.specs.declared.Item.the-variants.{One}
+use Rattle.sheet.specs.Lists.{countOf}
+use Rattle.sheet.specs.ListsLaws.{index-below}
+use Rattle.sheet.specs.Flags.{either, cond-zero}
 use Rattle.store.specs.Stored.{Drawing, readDrawing}
-use Rattle.store.specs.Reader.{itemOf}
-use Rattle.viewer.specs.Calls.{checkAnswer, count, object, whole, noIndex, indexRefusal, placeRefusal, callRefusal, sideIn, sideAnswer}
+use Rattle.viewer.specs.Calls.{checkAnswer, object, whole, indexRefusal, placeRefusal, callRefusal, sideIn, sideAnswer}
 use Rattle.viewer.specs.Answered.{among, OneOf, ofBytes, ofSide, Answered, a-sign, a-refusal}
-use Rattle.viewer.specs.ReadingLaws.{Good, good, bytes-refusal, item-accepted}
+use Rattle.viewer.specs.ReadingLaws.{one-of, one-more, bytes-refusal, good}
 use Rattle.viewer.specs.CallsLaws.{side-taken}
 
 -- "0 or the refusal"
@@ -39,35 +37,35 @@ check-answers bs = bytes-refusal bs
 abbrev Any : ℤ → Type 0
 Any = OneOf (0 ∷ ofSide)
 
-lit : (t : Bool) (n : ℕ) → among n (0 ∷ ofSide) ≡ true → Any (cond t (pos n) (pos 0))
-lit true n e = record { number = n; is = refl; one = e }
-lit false n e = record { number = 0; is = refl; one = refl }
-
-of-bytes : {z : ℤ} → OneOf (0 ∷ ofBytes) z → Any z
-of-bytes o = record { number = o .number; is = o .is; one = go (either (eqb (o .number) 0) (among (o .number) ofBytes) .0 (o .one)) }
+-- the first of the numbers, or one of the others
+split : {m : ℕ} {ms : List ℕ} {z : ℤ} → OneOf (m ∷ ms) z → (z ≡ pos m) ⊎ OneOf ms z
+split {m} {ms} {z} o = go (either (eqb (o .number) m) (among (o .number) ms) .0 (o .one))
   where
-    n : ℕ
-    n = o .number
+    go : (eqb (o .number) m ≡ true) ⊎ (among (o .number) ms ≡ true) → (z ≡ pos m) ⊎ OneOf ms z
+    go (inl e) = inl (o .is ∙ ap pos (eqb-true (o .number) m e))
+    go (inr e) = inr (record { number = o .number; is = o .is; one = e })
 
-    go : (eqb n 0 ≡ true) ⊎ (among n ofBytes ≡ true) → among n (0 ∷ ofSide) ≡ true
-    go (inl e) = either (eqb n 0) (among n ofSide) .1 (inl e)
-    go (inr e) = either (eqb n 0) (among n ofSide) .1 (inr (either (eqb n 13) (among n ofBytes) .1 (inr e)))
+of-bytes : {z : ℤ} → (z ≡ pos 0) ⊎ OneOf ofBytes z → Any z
+of-bytes (inl e) = record { number = 0; is = e; one = refl }
+of-bytes (inr o) = one-more (one-more o)
 
 any-or : (n m : ℤ) → Any n → Any m → Any (orElse n m)
 any-or n m h k = cond-by Any (eqZ n (pos 0)) (λ e. k) (λ e. h)
 
+any-index : (d : Drawing) (i : ℤ) → Any (indexRefusal d i)
+any-index d (pos k) = cond-by Any (ltb k (countOf (d .objects))) (λ e. one-of 0 refl) (λ e. one-of 13 refl)
+any-index d (negsuc k) = one-of 13 refl
+
 any-call : (bs : List ℕ) (i x y : ℤ) → Any (callRefusal (readDrawing bs) i x y)
 any-call bs i x y =
     let d = readDrawing bs in
-    any-or (d .refusal) (orElse (indexRefusal d i) (placeRefusal x y)) (of-bytes (bytes-refusal bs))
-    (any-or (indexRefusal d i) (placeRefusal x y) (lit (noIndex d i) 13 refl) (lit (beyond x || beyond y) 2 refl))
+    let place = cond-by Any (beyond x || beyond y) (λ e. one-of 2 refl) (λ e. one-of 0 refl) in
+    any-or (d .refusal) (orElse (indexRefusal d i) (placeRefusal x y)) (of-bytes (split (bytes-refusal bs)))
+    (any-or (indexRefusal d i) (placeRefusal x y) (any-index d i) place)
 
-some : {z : ℤ} → (z ≡ pos 0 → ⊥) → Any z → OneOf ofSide z
-some d o = record { number = o .number; is = o .is; one = go (either (eqb (o .number) 0) (among (o .number) ofSide) .0 (o .one)) }
-  where
-    go : (eqb (o .number) 0 ≡ true) ⊎ (among (o .number) ofSide ≡ true) → among (o .number) ofSide ≡ true
-    go (inl e) = absurd (d (o .is ∙ ap pos (eqb-true (o .number) 0 e)))
-    go (inr e) = e
+some : {z : ℤ} → (z ≡ pos 0 → ⊥) → (z ≡ pos 0) ⊎ OneOf ofSide z → OneOf ofSide z
+some d (inl e) = absurd (d e)
+some d (inr o) = o
 
 -- "-1, 0, 1, or 100 plus the refusal"
 pub side-answers : (bs : List ℕ) (i x y : ℤ) → Answered (readDrawing bs) i x y (sideAnswer bs i x y)
@@ -85,7 +83,7 @@ side-answers bs i x y = go (eqZ c (pos 0)) (λ e. eqZ-true e) (λ e. eqZ-false e
 
     go : (t : Bool) → (t ≡ true → c ≡ pos 0) → (t ≡ false → c ≡ pos 0 → ⊥) → Answered d i x y (cond t s (pos 100 +ℤ c))
     go true f g = a-sign (f refl) refl (side-sign-within (object d i) (whole x y))
-    go false f g = a-refusal (some (g refl) (any-call bs i x y)) refl
+    go false f g = a-refusal (some (g refl) (split (any-call bs i x y))) refl
 
 -- a sign is never a refusal
 pub sign-accepted : (bs : List ℕ) (i x y : ℤ) → Within 1 (sideAnswer bs i x y) → callRefusal (readDrawing bs) i x y ≡ pos 0
@@ -99,20 +97,10 @@ sign-accepted bs i x y w = go (side-answers bs i x y)
 
 -- ---- what is not refused
 
-index-item : (d : Drawing) (k : ℕ) → Good d → k < count d → itemOf d k ≡ One (object d (pos k))
-unfolding itemOf
-index-item d k g h =
-    let l : k * width < length (d .objects) = omega (arith, g .five) in
-    simp (lt-ltb (k * width) (length (d .objects)) l)
-
 index-object : (bs : List ℕ) (i : ℤ) → readDrawing bs .refusal ≡ pos 0 → indexRefusal (readDrawing bs) i ≡ pos 0
     → objectRefusal (object (readDrawing bs) i) ≡ pos 0
 index-object bs (negsuc k) z e = absurd (eqZ-false {a = pos 13} {b = pos 0} refl e)
-index-object bs (pos k) z e =
-    let d = readDrawing bs in
-    let f = cond-zero (ltb k 0 || not (ltb k (count d))) (pos 13) (pos 0) refl .0 e .0 in
-    let l = ltb-true k (count d) (isnt-not (ltb k (count d)) .0 (neither (ltb k 0) (not (ltb k (count d))) .0 f .1)) in
-    item-accepted bs k (object d (pos k)) (index-item d k (good bs z) l)
+index-object bs (pos k) z e = good bs z .each k (index-below (readDrawing bs .objects) k e) .accepted
 
 pub side-accepted : (bs : List ℕ) (i x y : ℤ) → callRefusal (readDrawing bs) i x y ≡ pos 0
     → sideSignRefusal (object (readDrawing bs) i) (whole x y) ≡ pos 0

@@ -1,25 +1,22 @@
 -- "The C viewer can call: check these stored bytes (0 or the refusal), and give the side of object i for whole x, y. The second answers
 -- -1, 0, 1, or 100 plus the refusal: the bytes' own, then 13, then 2." Definitions alone; their laws are in CallsLaws.
-use mathlib.Core.Bool.{Bool, cond, not, _||_}
+use mathlib.Core.Bool.{cond, _||_}
 use mathlib.Core.List.{List}
 use Prim.Native.Nat.{ℕ}
-use lib.IntN.{ℤ, pos, natAbs, _+ℤ_}
-use lib.Signed.{ltZ}
+use lib.IntN.{ℤ, pos, negsuc, natAbs, _+ℤ_}
 use Rattle.whole.specs.Tests.{eqZ}
 use Rattle.sheet.specs.declared.Object.{Object}
 use Rattle.sheet.specs.declared.Point.{Point}
 use Rattle.sheet.specs.Refusal.{beyond}
 use Rattle.sheet.specs.Points.{given}
 use Rattle.sheet.specs.Signs.{orElse, sideSign}
-use Rattle.sheet.specs.Lists.{countOf, objectAt}
+use Rattle.sheet.specs.Lists.{objectAt}
+use Rattle.sheet.specs.Lists as lists
 use Rattle.store.specs.Stored.{Drawing, readDrawing}
 
 -- "check these stored bytes (0 or the refusal)"
 abbrev pub checkAnswer : List ℕ → ℤ
 checkAnswer bytes = readDrawing bytes .refusal
-
-abbrev pub count : Drawing → ℕ
-count d = countOf (d .objects)
 
 -- the object of index i
 abbrev pub object : Drawing → ℤ → Object
@@ -30,11 +27,9 @@ abbrev pub whole : ℤ → ℤ → Point
 whole x y = given (record { x = x; y = y })
 
 -- "13: object index below 0 or not below the count"
-abbrev pub noIndex : Drawing → ℤ → Bool
-noIndex d i = ltZ i (pos 0) || not (ltZ i (pos (count d)))
-
 abbrev pub indexRefusal : Drawing → ℤ → ℤ
-indexRefusal d i = cond (noIndex d i) (pos 13) (pos 0)
+indexRefusal d (pos k) = lists.indexRefusal (d .objects) k
+indexRefusal d (negsuc k) = pos 13
 
 -- "2: a coordinate beyond 2,000 either way"
 abbrev pub placeRefusal : ℤ → ℤ → ℤ

@@ -9,7 +9,7 @@
 -- Assumes nothing.
 use mathlib.Core.Path.{_≡_, refl, sym, ap, subst, _∙_}
 use mathlib.Core.Logic.{_⊎_, inl, inr}
-use mathlib.Core.Bool.{Bool, true, false, cond, not, _&&_, _||_, true≢false}
+use mathlib.Core.Bool.{Bool, true, false, cond, _&&_, _||_, true≢false}
 use mathlib.Core.List.{List, [], _∷_}
 use Prim.Native.Nat.{ℕ, zero, suc, _*_, _-_, _<_, _≤_}
 use native.Mathlib.Omega.{arith}
@@ -27,7 +27,8 @@ use Rattle.sheet.specs.Points.{pointRefusal}
 use Rattle.sheet.specs.Signs.{sideSign, sideSignRefusal}
 use Rattle.sheet.specs.Answers.{answer, signedSays}
 use Rattle.sheet.specs.AnswersLaws.{accepted}
-use Rattle.sheet.specs.Lists.{width, objectAt}
+use Rattle.sheet.specs.Lists.{width, countOf, objectAt}
+use Rattle.sheet.specs.ListsLaws.{Listable}
 use Rattle.sheet.specs.Flags.{both, neither, either, flags}
 use Rattle.sheet.specs.RefusalLaws.{Small}
 use Rattle.sheet.specs.PointsLaws.{point-is}
@@ -36,9 +37,9 @@ use Rattle.store.specs.declared.Place.{Place}
 use Rattle.store.specs.declared.Item.the-variants.{One, End}
 use Rattle.store.specs.Stored.{Drawing, readDrawing}
 use Rattle.store.specs.Reader.{stepOf, callFrom, endOf, itemOf}
-use Rattle.viewer.specs.Calls.{count, object, whole, noIndex, sideIn, sideFor}
-use Rattle.viewer.specs.Answered.{among, OneOf, ofBytes}
-use Rattle.viewer.specs.ReadingLaws.{Good, bytes-refusal}
+use Rattle.viewer.specs.Calls.{object, whole, indexRefusal, sideIn, sideFor}
+use Rattle.viewer.specs.Answered.{among, ofBytes}
+use Rattle.viewer.specs.ReadingLaws.{bytes-refusal}
 
 pub call-more : (bs : List ℕ) (p : Place) (k : ℕ) → 0 < k → callFrom bs p k ≡ callFrom bs (stepOf bs p .place) (k - 1)
 unfolding callFrom
@@ -105,26 +106,17 @@ module _ (d : Drawing) (i x y : ℤ) where
   answer-bytes h = simp (ne-eqZ h)
 
   module _ (z : d .refusal ≡ pos 0) where
-    pub answer-index : noIndex d i ≡ true → sideIn d i x y ≡ pos 113
+    pub answer-index : indexRefusal d i ≡ pos 13 → sideIn d i x y ≡ pos 113
     unfolding sideIn
     answer-index e = simp (eq-eqZ z, e)
 
-    pub answer-object : noIndex d i ≡ false → sideIn d i x y ≡ sideFor (object d i) x y
+    pub answer-object : indexRefusal d i ≡ pos 0 → sideIn d i x y ≡ sideFor (object d i) x y
     unfolding sideIn sideFor
     answer-object e = simp (eq-eqZ z, e)
 
 -- below 0, or too large for any drawing
 abbrev pub farIndex : ℤ → Bool
 farIndex i = ltZ i (pos 0) || leZ (pos 512) i
-
-pub index-far : (d : Drawing) (i : ℤ) → Good d → farIndex i ≡ true → noIndex d i ≡ true
-index-far d (negsuc k) g e = refl
-index-far d (pos k) g e = go (ltb k (count d)) (ltb-true k (count d)) (either (ltb k 0) (leb 512 k) .0 e)
-  where
-    go : (t : Bool) → (t ≡ true → k < count d) → (ltb k 0 ≡ true) ⊎ (leb 512 k ≡ true) → (ltb k 0 || not t) ≡ true
-    go false y f = either (ltb k 0) true .1 (inr refl)
-    go true y (inl f) = let l = ltb-true k 0 f in absurd (omega arith)
-    go true y (inr f) = let l = leb-true 512 k f in absurd (omega (arith, y refl, g .few))
 
 -- else a natural number
 pub record Natural (i : ℤ) : Type 0 where
@@ -135,48 +127,47 @@ pub index-natural : (i : ℤ) → farIndex i ≡ false → Natural i
 index-natural (negsuc k) e = absurd (true≢false e)
 index-natural (pos k) e = record { is = refl; small = leb-false 512 k (neither (ltb k 0) (leb 512 k) .0 e .1) }
 
--- ---- the object
+module _ (d : Drawing) (g : Listable (d .objects)) where
+  index-past : (k : ℕ) → countOf (d .objects) ≤ k → indexRefusal d (pos k) ≡ pos 13
+  index-past k h = simp (le-ltb k (countOf (d .objects)) h)
 
-module _ (d : Drawing) (g : Good d) where
-  index-here : (k : ℕ) → k * width < length (d .objects) → noIndex d (pos k) ≡ false
-  index-here k h =
-      let l : k < count d = omega (arith, g .five) in
-      simp (le-ltb k 0 (omega arith), lt-ltb k (count d) l)
+  pub index-far : (i : ℤ) → farIndex i ≡ true → indexRefusal d i ≡ pos 13
+  index-far (negsuc k) e = refl
+  index-far (pos k) e = go (either (ltb k 0) (leb 512 k) .0 e)
+    where
+      go : (ltb k 0 ≡ true) ⊎ (leb 512 k ≡ true) → indexRefusal d (pos k) ≡ pos 13
+      go (inl f) = let l = ltb-true k 0 f in absurd (omega arith)
+      go (inr f) = index-past k (omega (arith, leb-true 512 k f, g .few))
 
-  index-past : (k : ℕ) → length (d .objects) ≤ k * width → noIndex d (pos k) ≡ true
-  index-past k h =
-      let l : count d ≤ k = omega (arith, g .five) in
-      simp (le-ltb k 0 (omega arith), le-ltb k (count d) l)
+  -- ---- the object
 
   module _ (z : d .refusal ≡ pos 0) (i : ℤ) (n : Natural i) where
+    abbrev at : ℕ
+    at = natAbs i * width
+
     -- where a call of the reader gives an object
-    pub found : (o : Object) → One o ≡ itemOf d (natAbs i) → (noIndex d i ≡ false) × (o ≡ object d i)
+    pub found : (o : Object) → One o ≡ itemOf d (natAbs i) → (indexRefusal d i ≡ pos 0) × (o ≡ object d i)
     unfolding itemOf
     found o e = go (ltb at (length (d .objects))) (ltb-true at (length (d .objects))) e
       where
-        at : ℕ
-        at = natAbs i * width
-
         go : (t : Bool) → (t ≡ true → at < length (d .objects)) → One o ≡ cond t (One (objectAt (d .objects) (natAbs i))) (endOf (d .refusal))
-            → (noIndex d i ≡ false) × (o ≡ object d i)
+            → (indexRefusal d i ≡ pos 0) × (o ≡ object d i)
         go true y e =
             let f : o ≡ objectAt (d .objects) (natAbs i) = cc in
-            (subst (λ (j : ℤ). noIndex d j ≡ false) (sym (n .is)) (index-here (natAbs i) (y refl)), f)
+            let l : natAbs i < countOf (d .objects) = omega (arith, y refl, g .whole) in
+            (ap (indexRefusal d) (n .is) ∙ simp (lt-ltb (natAbs i) (countOf (d .objects)) l), f)
         go false y e =
             let f : One o ≡ End = e ∙ simp (eq-eqZ z) in
             let z : _≡_ {A = ℕ} 0 1 = cc in
             absurd (omega arith)
 
     -- and where it gives none
-    pub missed : ((o : Object) → itemOf d (natAbs i) ≡ One o → ⊥) → noIndex d i ≡ true
+    pub missed : ((o : Object) → itemOf d (natAbs i) ≡ One o → ⊥) → indexRefusal d i ≡ pos 13
     unfolding itemOf
     missed h = go (ltb at (length (d .objects))) (ltb-false at (length (d .objects))) h
       where
-        at : ℕ
-        at = natAbs i * width
-
         go : (t : Bool) → (t ≡ false → length (d .objects) ≤ at)
             → ((o : Object) → cond t (One (objectAt (d .objects) (natAbs i))) (endOf (d .refusal)) ≡ One o → ⊥)
-            → noIndex d i ≡ true
+            → indexRefusal d i ≡ pos 13
         go true y h = absurd (h (objectAt (d .objects) (natAbs i)) refl)
-        go false y h = subst (λ (j : ℤ). noIndex d j ≡ true) (sym (n .is)) (index-past (natAbs i) (y refl))
+        go false y h = ap (indexRefusal d) (n .is) ∙ index-past (natAbs i) (omega (arith, y refl, g .whole))

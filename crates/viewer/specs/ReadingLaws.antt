@@ -1,36 +1,34 @@
 -- What reading stored bytes gives: accepted objects, at most 512, or one of the refusals of stored bytes. To cite:
 --   bytes-refusal   the refusal of stored bytes is 0 or one of the table's that they can meet
---   Good, good      an accepted drawing has whole objects, at most 512
 --   item-accepted   every object of a drawing is accepted
+--   good            an accepted drawing has whole objects, at most 512, each accepted
+--   one-of, one-more   one of some numbers, and of one number more
 -- Assumes nothing.
-use mathlib.Core.Path.{_≡_, refl, sym, ap, _∙_}
+use mathlib.Core.Path.{_≡_, refl, sym, ap, subst, _∙_}
 use mathlib.Core.Logic.{inr}
-use mathlib.Core.Bool.{Bool, true, false, cond}
-use mathlib.Core.List.{List, [], _∷_}
+use mathlib.Core.Bool.{Bool, true, false, cond, true≢false}
+use mathlib.Core.List.{List, [], _∷_, _++_}
 use Prim.Native.Nat.{ℕ, zero, suc, _+_, _*_, _-_, _<_, _≤_}
 use native.Mathlib.Omega.{arith}
-use borrow.Author.Tests.{ltb-false}
+use borrow.Author.Tests.{ltb-true, ltb-false}
 use lib.Dec.{ltb, eqb}
-use lib.IntN.{ℤ, pos}
-use lib.ListN.{length, drop}
-use Rattle.whole.specs.Tests.{eqZ-false}
+use lib.IntN.{ℤ, pos, natAbs}
+use lib.ListN.{length}
+use Rattle.whole.specs.Tests.{eqZ, cond-by}
 use Rattle.sheet.specs.declared.Object.{Object}
 use Rattle.sheet.specs.Figure.{Vec}
 use Rattle.sheet.specs.Limits.{most}
 use Rattle.sheet.specs.Refusal.{outside, beyond, equal, pairRefusal, sideRefusal, objectRefusal}
-use Rattle.sheet.specs.Lists.{width}
+use Rattle.sheet.specs.Answers.{objectNumbers}
+use Rattle.sheet.specs.Lists.{width, objectAt}
+use Rattle.sheet.specs.ListsLaws.{Listable, object-next}
 use Rattle.sheet.specs.Flags.{either}
-use Rattle.store.specs.declared.Place.{Place}
 use Rattle.store.specs.declared.Item.{Item}
 use Rattle.store.specs.declared.Item.the-variants.{One, End, Refused}
-use Rattle.store.specs.Stored.{Reading, got, no, next, checked, Drawing, pairOf, unzigzag, sideObject, andThen, counted}
+use Rattle.store.specs.Stored.{Reading, got, no, next, checked, pairOf, unzigzag, sideObject, andThen, counted}
 use Rattle.store.specs.Stored.{readGroups, readNumber, readCoordinate, readPoint, readSide, readTo, readPair, readShape, readObject, readObjects, readCount, readDrawing}
-use Rattle.store.specs.Reader.{startPlace, stepObject, stepFrom, stepCounted, stepOf, callFrom, itemOf}
+use Rattle.store.specs.Reader.{itemOf}
 use Rattle.store.specs.ObjectsLaws.{objects-length}
-use Rattle.store.specs.SureLaws.{Sure, sure-count}
-use Rattle.store.specs.SureLaws as sure
-use Rattle.store.specs.ReaderLaws.{calls-give}
-use Rattle.viewer.specs.Calls.{count}
 use Rattle.viewer.specs.Answered.{among, OneOf, ofBytes}
 
 -- ---- what was read has P, or the refusal is one of stored bytes
@@ -130,18 +128,24 @@ told-count bs =
     told-next (λ n rest. checked (ltb most n) (pos 11) n rest) (told-number bs)
     (λ n rest u. told-checked (ltb most n) 11 n rest refl (λ e. ltb-false 512 n e))
 
--- ---- drawings
+-- ---- the refusal of a drawing
+
+pub one-of : {ms : List ℕ} (n : ℕ) → among n ms ≡ true → OneOf ms (pos n)
+one-of n e = record { number = n; is = refl; one = e }
+
+pub one-more : {m : ℕ} {ms : List ℕ} {z : ℤ} → OneOf ms z → OneOf (m ∷ ms) z
+one-more {m} {ms} o = record { number = o .number; is = o .is; one = either (eqb (o .number) m) (among (o .number) ms) .1 (inr (o .one)) }
 
 objects-refusal : (n : ℕ) (bs : List ℕ) → OneOf (0 ∷ ofBytes) (readObjects n bs .refusal)
 unfolding readObjects
-objects-refusal zero [] = record { number = 0; is = refl; one = refl }
-objects-refusal zero (b ∷ bs) = record { number = 9; is = refl; one = refl }
+objects-refusal zero [] = one-of 0 refl
+objects-refusal zero (b ∷ bs) = one-of 9 refl
 objects-refusal (suc n) bs = go (told-object bs) (objects-refusal n)
   where
     go : {r : Reading Object} → Told Fine r → ((rest : List ℕ) → OneOf (0 ∷ ofBytes) (readObjects n rest .refusal))
         → OneOf (0 ∷ ofBytes) (andThen r (λ rest. readObjects n rest) .refusal)
     go (taken o rest e) h = h rest
-    go (refused n e) h = record { number = n; is = refl; one = either (eqb n 0) (among n ofBytes) .1 (inr e) }
+    go (refused n e) h = one-more (one-of n e)
 
 pub bytes-refusal : (bs : List ℕ) → OneOf (0 ∷ ofBytes) (readDrawing bs .refusal)
 unfolding readDrawing
@@ -149,54 +153,56 @@ bytes-refusal bs = go (told-count bs)
   where
     go : {r : Reading ℕ} → Told (λ n. n ≤ 512) r → OneOf (0 ∷ ofBytes) (counted r .refusal)
     go (taken n rest e) = objects-refusal n rest
-    go (refused n e) = record { number = n; is = refl; one = either (eqb n 0) (among n ofBytes) .1 (inr e) }
-
-pub record Good (d : Drawing) : Type 0 where
-  pub five : count d * width ≡ length (d .objects)
-  pub few : count d ≤ 512
-
-pub good : (bs : List ℕ) → readDrawing bs .refusal ≡ pos 0 → Good (readDrawing bs)
-unfolding readDrawing
-good bs e = go (told-count bs) (sure-count bs) e
-  where
-    go : {r : Reading ℕ} → Told (λ n. n ≤ 512) r → Sure bs r → counted r .refusal ≡ pos 0 → Good (counted r)
-    go (taken n rest h) s e = let l = objects-length n rest e in record { five = omega arith; few = omega arith }
-    go (refused n h) (sure.refused m z) e = absurd (eqZ-false z e)
+    go (refused n e) = one-more (one-of n e)
 
 -- ---- every object is accepted
 
-abbrev Kept : Item → Type 0
-Kept i = (o : Object) → i ≡ One o → objectRefusal o ≡ pos 0
+abbrev Each : List ℤ → Type 0
+Each l = (k : ℕ) → k * width < length l → Fine (objectAt l k)
 
-kept-object : (bs : List ℕ) (p : Place) (left : ℕ) {r : Reading Object} → Told Fine r → Kept (stepObject bs p left r .item)
-kept-object bs p left (taken a rest h) o e = let f : a ≡ o = cc in ap objectRefusal (sym f) ∙ h
-kept-object bs p left (refused n h) o e = let z : _≡_ {A = ℕ} 0 1 = cc in absurd (omega arith)
+each-before : (o : Object) (l : List ℤ) → Fine o → Each l → Each (objectNumbers o ++ l)
+each-before o l p h zero b = p
+each-before o l p h (suc k) b = subst Fine (object-next (objectNumbers o ++ l) k) (h k (omega arith))
 
-kept-end : (t : Bool) → Kept (cond t (Refused (pos 9)) End)
-kept-end true o e = let z : _≡_ {A = ℕ} 0 1 = cc in absurd (omega arith)
-kept-end false o e = let z : _≡_ {A = ℕ} 0 1 = cc in absurd (omega arith)
-
-kept-from : (bs : List ℕ) (p : Place) (left at : ℕ) → Kept (stepFrom bs p left at .item)
-unfolding stepFrom
-kept-from bs p zero at = kept-end (ltb at (length bs))
-kept-from bs p (suc left) at = kept-object bs p left (told-object (drop at bs))
-
-kept-counted : (bs : List ℕ) (p : Place) (r : Reading ℕ) → Kept (stepCounted bs p r .item)
-kept-counted bs p (got n rest) = kept-from bs p n (length bs - length rest)
-kept-counted bs p (no n) = λ o e. let z : _≡_ {A = ℕ} 0 1 = cc in absurd (omega arith)
-
-kept-step : (bs : List ℕ) (p : Place) → Kept (stepOf bs p .item)
-unfolding stepOf
-kept-step bs p = go (p .begun)
+each-read : (n : ℕ) (bs : List ℕ) → Each (readObjects n bs .objects)
+unfolding readObjects
+each-read zero [] = λ k h. absurd (omega arith)
+each-read zero (b ∷ bs) = λ k h. absurd (omega arith)
+each-read (suc n) bs = go (told-object bs) (each-read n)
   where
-    go : (t : Bool) → Kept (cond t (stepFrom bs p (p .left) (p .at)) (stepCounted bs p (readCount bs)) .item)
-    go true = kept-from bs p (p .left) (p .at)
-    go false = kept-counted bs p (readCount bs)
+    go : {r : Reading Object} → Told Fine r → ((rest : List ℕ) → Each (readObjects n rest .objects))
+        → Each (andThen r (λ rest. readObjects n rest) .objects)
+    go (taken o rest e) h = each-before o (readObjects n rest .objects) e (h rest)
+    go (refused n e) h = λ k b. absurd (omega arith)
 
-kept-call : (bs : List ℕ) (p : Place) (k : ℕ) → Kept (callFrom bs p k)
-unfolding callFrom
-kept-call bs p zero = kept-step bs p
-kept-call bs p (suc k) = kept-call bs (stepOf bs p .place) k
+each-drawing : (bs : List ℕ) → Each (readDrawing bs .objects)
+unfolding readDrawing
+each-drawing bs = go (readCount bs)
+  where
+    go : (r : Reading ℕ) → Each (counted r .objects)
+    go (got n rest) = each-read n rest
+    go (no n) = λ k h. absurd (omega arith)
+
+abbrev FineItem : Item → Type 0
+FineItem (One o) = Fine o
+FineItem End = Unit {0}
+FineItem (Refused n) = Unit {0}
 
 pub item-accepted : (bs : List ℕ) (k : ℕ) (o : Object) → itemOf (readDrawing bs) k ≡ One o → objectRefusal o ≡ pos 0
-item-accepted bs k o e = kept-call bs startPlace k o (calls-give bs k ∙ e)
+unfolding itemOf
+item-accepted bs k o e =
+    let d = readDrawing bs in
+    let last = cond-by FineItem (eqZ (d .refusal) (pos 0)) (λ t. tt) (λ t. tt) in
+    subst FineItem e
+    (cond-by FineItem (ltb (k * width) (length (d .objects))) (λ t. each-drawing bs k (ltb-true (k * width) (length (d .objects)) t)) (λ t. last))
+
+-- an accepted drawing is a list that is not refused
+pub good : (bs : List ℕ) → readDrawing bs .refusal ≡ pos 0 → Listable (readDrawing bs .objects)
+unfolding readDrawing
+good bs e = go (told-count bs) e
+  where
+    go : {r : Reading ℕ} → Told (λ n. n ≤ 512) r → counted r .refusal ≡ pos 0 → Listable (counted r .objects)
+    go (taken n rest h) e =
+        let l = objects-length n rest e in
+        record { whole = omega arith; few = omega arith; each = λ k b. record { accepted = each-read n rest k (omega arith) } }
+    go (refused n h) e = absurd (true≢false (sym h ∙ ap (λ (z : ℤ). among (natAbs z) ofBytes) e))

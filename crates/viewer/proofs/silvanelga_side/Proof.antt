@@ -71,7 +71,7 @@ returns-2 c =
     let s = c .before .before .before .before in
     let d = readDrawing (stored s) in
     let z = fine (c .before) in
-    sym (answer-index d (s .args .i) (s .args .x) (s .args .y) z (index-far d (s .args .i) (good (stored s) z) (tested s ∙ c .if2 .taken)))
+    sym (answer-index d (s .args .i) (s .args .x) (s .args .y) z (index-far d (good (stored s) z) (s .args .i) (tested s ∙ c .if2 .taken)))
 
 natural : (c : tie.Else2) → Natural (c .before .before .before .before .args .i)
 natural c = let s = c .before .before .before .before in index-natural (s .args .i) (tested s ∙ c .if2 .left)
