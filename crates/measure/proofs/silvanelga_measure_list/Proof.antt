@@ -4,9 +4,6 @@ use Rattle.listing.specs.declared.Listed.{Listed}
 use borrow.Author.Needs.{needs}
 use Rattle.measure.proofs.silvanelga_measure_list.Statement.{statement}
 use Rattle.measure.proofs.silvanelga_measure_list.Tie as tie
-use Rattle.measure.proofs.silvanelga_measure_list.Reads as reads
-use Rattle.measure.proofs.silvanelga_measure_list.Lts as lts
-use Rattle.listing.proofs.list_all.Reads as list-all-reads
 
 list-all-requires : tie.Need-list-all-requires
 list-all-requires c κs = search needs

@@ -4,9 +4,6 @@ use Rattle.store.specs.declared.Read.{Read}
 use borrow.Author.Needs.{needs}
 use Rattle.measure.proofs.silvanelga_measure_read.Statement.{statement}
 use Rattle.measure.proofs.silvanelga_measure_read.Tie as tie
-use Rattle.measure.proofs.silvanelga_measure_read.Reads as reads
-use Rattle.measure.proofs.silvanelga_measure_read.Lts as lts
-use Rattle.store.proofs.read_drawing.Reads as read-drawing-reads
 
 read-drawing-requires : tie.Need-read-drawing-requires
 read-drawing-requires c κs = search needs

@@ -4,9 +4,6 @@ use Rattle.store.specs.declared.Written.{Written}
 use borrow.Author.Needs.{needs}
 use Rattle.measure.proofs.silvanelga_measure_write.Statement.{statement}
 use Rattle.measure.proofs.silvanelga_measure_write.Tie as tie
-use Rattle.measure.proofs.silvanelga_measure_write.Reads as reads
-use Rattle.measure.proofs.silvanelga_measure_write.Lts as lts
-use Rattle.store.proofs.write_drawing.Reads as write-drawing-reads
 
 write-drawing-requires : tie.Need-write-drawing-requires
 write-drawing-requires c κs = search needs

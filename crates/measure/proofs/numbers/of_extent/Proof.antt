@@ -26,8 +26,7 @@ flag-is false = refl
 returns : tie.Need-returns
 returns c =
     let e = c .before .before .args .e in
-    c .six .ensures
-    ∙ ap (shown e) (flag-is (e .none))
+    c .six .ensures ∙ ap (shown e) (flag-is (e .none))
 
 pub of-extent-spec : {M : Type 1} → statement M
 of-extent-spec = tie.close (tie.spec cast-flag six-requires returns)

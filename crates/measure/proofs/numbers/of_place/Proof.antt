@@ -1,4 +1,4 @@
-use mathlib.Core.Path.{_≡_, sym, _∙_, ap}
+use mathlib.Core.Path.{sym, _∙_, ap}
 use lib.IntN.{ℤ}
 use lib.Ieee.{ofBits}
 use Rattle.whole.specs.Tests.{out-ok}
