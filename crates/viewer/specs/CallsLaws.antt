@@ -4,7 +4,7 @@
 --   signed-sign, signed-refused   what the kernel says where it refuses nothing
 --   bytes-within              a refusal of stored bytes is a small number
 --   answer-bytes, answer-index, answer-object   the bytes' own refusal, 13, and the side of the object
---   farIndex, index-far, index-natural   an index that no drawing has, and a natural one
+--   farIndex, index-far, Natural, index-natural   an index that no drawing has, and a natural one
 --   found, missed             what a call of the reader says of the index
 -- Assumes nothing.
 use mathlib.Core.Path.{_≡_, refl, sym, ap, subst, _∙_}

@@ -43,29 +43,27 @@ returns c =
 side-of-requires : tie.Need-side-of-requires
 side-of-requires c κs = search needs
 
-near : (c : tie.After-side-of) →
-    (beyond (c .before .before .before .before .args .x) || beyond (c .before .before .before .before .args .y)) ≡ false
-near c = tested (c .before .before) ∙ c .before .if1 .left
+module _ (c : tie.After-side-of) where
+  abbrev s : tie.Start
+  s = c .before .before .before .before
 
-none : (c : tie.After-side-of) →
-    let s = c .before .before .before .before in sideSignRefusal (s .args .o) (whole (s .args .x) (s .args .y)) ≡ pos 0
-none c =
-    let s = c .before .before .before .before in
-    side-taken (s .args .x) (s .args .y) (near c) (s .args .o) (s .pre .accepted)
+  abbrev p : Point
+  p = whole (s .args .x) (s .args .y)
 
--- the point is handed on number by number
-said : (c : tie.After-side-of) →
-    let s = c .before .before .before .before in
-    let p = whole (s .args .x) (s .args .y) in
-    signedSays (c .side-of .result) ≡ answer (sideSignRefusal (s .args .o) p) (sideSign (s .args .o) p ∷ [])
-said c =
-    let s = c .before .before .before .before in
-    let o = s .args .o in
-    let nought : mag (pos 0) < 2 ^ 63 = omega arith in
-    let one : mag (pos 1) < 2 ^ 63 = omega arith in
-    c .side-of .ensures
-    ∙ ap (λ (p : Point). answer (sideSignRefusal o p) (sideSign o p ∷ []))
-    (handed.point (whole (s .args .x) (s .args .y)) nought (s .fits .x .sfits) nought (s .fits .y .sfits) one)
+  near : (beyond (s .args .x) || beyond (s .args .y)) ≡ false
+  near = tested (c .before .before) ∙ c .before .if1 .left
+
+  none : sideSignRefusal (s .args .o) p ≡ pos 0
+  none = side-taken (s .args .x) (s .args .y) near (s .args .o) (s .pre .accepted)
+
+  -- the point is handed on number by number
+  said : signedSays (c .side-of .result) ≡ answer (sideSignRefusal (s .args .o) p) (sideSign (s .args .o) p ∷ [])
+  said =
+      let nought : mag (pos 0) < 2 ^ 63 = omega arith in
+      let one : mag (pos 1) < 2 ^ 63 = omega arith in
+      c .side-of .ensures
+      ∙ ap (λ (q : Point). answer (sideSignRefusal (s .args .o) q) (sideSign (s .args .o) q ∷ []))
+      (handed.point p nought (s .fits .x .sfits) nought (s .fits .y .sfits) one)
 
 enum-known-signed : tie.Need-enum-known-signed
 enum-known-signed c = search needs
@@ -84,12 +82,11 @@ add-result-2 c = absurd (never c)
 returns-2 : tie.Need-returns-2
 returns-2 c =
     let k = c .before .before .before in
-    let s = k .before .before .before .before in
-    let o = s .args .o in
+    let a = s k .args in
     let is = signed-sign _ (c .before .signed .given .0 .0) _ (none k) (sym (ap signedSays (c .before .signed .given .1)) ∙ said k) in
-    out-is (fits64 (w-is is (side-sign-within o (whole (s .args .x) (s .args .y)))) tt)
+    out-is (fits64 (w-is is (side-sign-within (a .o) (p k))) tt)
     ∙ is
-    ∙ place-near (s .args .x) (s .args .y) (near k) o
+    ∙ place-near (a .x) (a .y) (near k) (a .o)
 
 returns-3 : tie.Need-returns-3
 returns-3 c = absurd (never c)
