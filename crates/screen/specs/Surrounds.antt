@@ -1,5 +1,5 @@
 -- What the box of the definitions is, in whole numbers. To cite:
---   standards, ends-standard   the standard ends of an accepted object are those of its two ends that are standard points
+--   standards, givens, ends-standard   the standard ends of an accepted object are those of its two ends that are standard points
 --   Among                      a place is one of some
 --   Met, extreme-met           the lowest and the highest of a coordinate is that of one of the places
 --   AtLeast, extreme-all       no place is beyond it

@@ -1,4 +1,4 @@
-// Whole numbers, makers, ends and signs.
+// Whole numbers, makers, ends, signs and crossings.
 use crate::say;
 use kernel::crossing::cross;
 use kernel::ends::ends_of;
