@@ -10,8 +10,7 @@ use mathlib.Core.Bool.{Bool, true, false, cond, _||_}
 use mathlib.Core.List.{List, _∷_}
 use Prim.Native.Nat.{ℕ, _+_}
 use native.Mathlib.Omega.{arith}
-use borrow.Author.Tests.{eqb-true}
-use lib.Dec.{eqb, ltb}
+use lib.Dec.{ltb}
 use lib.IntN.{ℤ, pos, negsuc, natAbs, _+ℤ_}
 use Rattle.whole.specs.Bound.{Within}
 use Rattle.whole.specs.Tests.{eqZ, eqZ-true, eqZ-false, cond-by}
@@ -21,11 +20,11 @@ use Rattle.sheet.specs.SignsLaws.{side-sign-within}
 use Rattle.sheet.specs.AnswersLaws.{or-zero}
 use Rattle.sheet.specs.Lists.{countOf}
 use Rattle.sheet.specs.ListsLaws.{index-below}
-use Rattle.sheet.specs.Flags.{either, cond-zero}
+use Rattle.sheet.specs.Flags.{cond-zero}
 use Rattle.store.specs.Stored.{Drawing, readDrawing}
 use Rattle.viewer.specs.Calls.{checkAnswer, object, whole, indexRefusal, placeRefusal, callRefusal, sideIn, sideAnswer}
-use Rattle.viewer.specs.Answered.{among, OneOf, ofBytes, ofSide, Answered, a-sign, a-refusal}
-use Rattle.viewer.specs.ReadingLaws.{one-of, one-more, bytes-refusal, good}
+use Rattle.viewer.specs.Answered.{OneOf, ofBytes, ofSide, Answered, a-sign, a-refusal}
+use Rattle.viewer.specs.ReadingLaws.{one-of, one-more, split, bytes-refusal, good}
 use Rattle.viewer.specs.CallsLaws.{side-taken}
 
 -- "0 or the refusal"
@@ -36,14 +35,6 @@ check-answers bs = bytes-refusal bs
 
 abbrev Any : ℤ → Type 0
 Any = OneOf (0 ∷ ofSide)
-
--- the first of the numbers, or one of the others
-split : {m : ℕ} {ms : List ℕ} {z : ℤ} → OneOf (m ∷ ms) z → (z ≡ pos m) ⊎ OneOf ms z
-split {m} {ms} {z} o = go (either (eqb (o .number) m) (among (o .number) ms) .0 (o .one))
-  where
-    go : (eqb (o .number) m ≡ true) ⊎ (among (o .number) ms ≡ true) → (z ≡ pos m) ⊎ OneOf ms z
-    go (inl e) = inl (o .is ∙ ap pos (eqb-true (o .number) m e))
-    go (inr e) = inr (record { number = o .number; is = o .is; one = e })
 
 of-bytes : {z : ℤ} → (z ≡ pos 0) ⊎ OneOf ofBytes z → Any z
 of-bytes (inl e) = record { number = 0; is = e; one = refl }

@@ -7,14 +7,14 @@
 --   farIndex, index-far, Natural, index-natural   an index that no drawing has, and a natural one
 --   found, missed             what a call of the reader says of the index
 -- Assumes nothing.
-use mathlib.Core.Path.{_≡_, refl, sym, ap, subst, _∙_}
+use mathlib.Core.Path.{_≡_, refl, sym, ap, _∙_}
 use mathlib.Core.Logic.{_⊎_, inl, inr}
 use mathlib.Core.Bool.{Bool, true, false, cond, _&&_, _||_, true≢false}
 use mathlib.Core.List.{List, [], _∷_}
 use Prim.Native.Nat.{ℕ, zero, suc, _*_, _-_, _<_, _≤_}
 use native.Mathlib.Omega.{arith}
-use borrow.Author.Tests.{eqb-true, lt-ltb, le-ltb, ltb-true, ltb-false, leb-true, leb-false}
-use lib.Dec.{eqb, leb, ltb}
+use borrow.Author.Tests.{lt-ltb, le-ltb, ltb-true, ltb-false, leb-true, leb-false}
+use lib.Dec.{leb, ltb}
 use lib.IntN.{ℤ, pos, negsuc, natAbs, _+ℤ_}
 use lib.ListN.{length}
 use lib.Signed.{ltZ, leZ}
@@ -38,8 +38,8 @@ use Rattle.store.specs.declared.Item.the-variants.{One, End}
 use Rattle.store.specs.Stored.{Drawing, readDrawing}
 use Rattle.store.specs.Reader.{stepOf, callFrom, endOf, itemOf}
 use Rattle.viewer.specs.Calls.{object, whole, indexRefusal, sideIn, sideFor}
-use Rattle.viewer.specs.Answered.{among, ofBytes}
-use Rattle.viewer.specs.ReadingLaws.{bytes-refusal}
+use Rattle.viewer.specs.Answered.{OneOf, ofBytes}
+use Rattle.viewer.specs.ReadingLaws.{split, bytes-refusal}
 
 pub call-more : (bs : List ℕ) (p : Place) (k : ℕ) → 0 < k → callFrom bs p k ≡ callFrom bs (stepOf bs p .place) (k - 1)
 unfolding callFrom
@@ -83,20 +83,16 @@ abbrev upto : ℕ → List ℕ → Bool
 upto k [] = true
 upto k (m ∷ ms) = leb m k && upto k ms
 
-among-upto : (k n : ℕ) (ms : List ℕ) → upto k ms ≡ true → among n ms ≡ true → n ≤ k
-among-upto k n [] h e = absurd (true≢false (sym e))
-among-upto k n (m ∷ ms) h e =
-    let b = both (leb m k) (upto k ms) .0 h in
-    go (either (eqb n m) (among n ms) .0 e) (b .0) (among-upto k n ms (b .1))
+one-upto : (k : ℕ) (ms : List ℕ) {z : ℤ} → upto k ms ≡ true → OneOf ms z → Within k z
+one-upto k [] h o = absurd (true≢false (sym (o .one)))
+one-upto k (m ∷ ms) {z} h o = let b = both (leb m k) (upto k ms) .0 h in go (b .0) (one-upto k ms (b .1)) (split o)
   where
-    go : (eqb n m ≡ true) ⊎ (among n ms ≡ true) → leb m k ≡ true → (among n ms ≡ true → n ≤ k) → n ≤ k
-    go (inl f) l u = subst (λ (j : ℕ). j ≤ k) (sym (eqb-true n m f)) (leb-true m k l)
-    go (inr f) l u = u f
+    go : leb m k ≡ true → (OneOf ms z → Within k z) → (z ≡ pos m) ⊎ OneOf ms z → Within k z
+    go l u (inl e) = w-is e (record { within = leb-true m k l })
+    go l u (inr p) = u p
 
 pub bytes-within : (bs : List ℕ) → Within 11 (readDrawing bs .refusal)
-bytes-within bs =
-    let o = bytes-refusal bs in
-    w-is (o .is) (record { within = among-upto 11 (o .number) (0 ∷ ofBytes) refl (o .one) })
+bytes-within bs = one-upto 11 (0 ∷ ofBytes) refl (bytes-refusal bs)
 
 -- ---- the index
 

@@ -2,15 +2,15 @@
 --   bytes-refusal   the refusal of stored bytes is 0 or one of the table's that they can meet
 --   item-accepted   every object of a drawing is accepted
 --   good            an accepted drawing has whole objects, at most 512, each accepted
---   one-of, one-more   one of some numbers, and of one number more
+--   one-of, one-more, split   one of some numbers; of one number more; the first of them, or one of the others
 -- Assumes nothing.
 use mathlib.Core.Path.{_≡_, refl, sym, ap, subst, _∙_}
-use mathlib.Core.Logic.{inr}
+use mathlib.Core.Logic.{_⊎_, inl, inr}
 use mathlib.Core.Bool.{Bool, true, false, cond, true≢false}
 use mathlib.Core.List.{List, [], _∷_, _++_}
 use Prim.Native.Nat.{ℕ, zero, suc, _+_, _*_, _-_, _<_, _≤_}
 use native.Mathlib.Omega.{arith}
-use borrow.Author.Tests.{ltb-true, ltb-false}
+use borrow.Author.Tests.{eqb-true, ltb-true, ltb-false}
 use lib.Dec.{ltb, eqb}
 use lib.IntN.{ℤ, pos, natAbs}
 use lib.ListN.{length}
@@ -135,6 +135,14 @@ one-of n e = record { number = n; is = refl; one = e }
 
 pub one-more : {m : ℕ} {ms : List ℕ} {z : ℤ} → OneOf ms z → OneOf (m ∷ ms) z
 one-more {m} {ms} o = record { number = o .number; is = o .is; one = either (eqb (o .number) m) (among (o .number) ms) .1 (inr (o .one)) }
+
+-- the first of the numbers, or one of the others
+pub split : {m : ℕ} {ms : List ℕ} {z : ℤ} → OneOf (m ∷ ms) z → (z ≡ pos m) ⊎ OneOf ms z
+split {m} {ms} {z} o = go (either (eqb (o .number) m) (among (o .number) ms) .0 (o .one))
+  where
+    go : (eqb (o .number) m ≡ true) ⊎ (among (o .number) ms ≡ true) → (z ≡ pos m) ⊎ OneOf ms z
+    go (inl e) = inl (o .is ∙ ap pos (eqb-true (o .number) m e))
+    go (inr e) = inr (record { number = o .number; is = o .is; one = e })
 
 objects-refusal : (n : ℕ) (bs : List ℕ) → OneOf (0 ∷ ofBytes) (readObjects n bs .refusal)
 unfolding readObjects
