@@ -178,19 +178,13 @@ module _ (up : Bool) where
 
 -- each of the four numbers is a coordinate of one of the places, and no place lies outside
 pub record Surrounds (vs : List Vec) (lx ly hx hy : ℤ) : Type 0 where
-  pub met-lx : Met 0 lx vs
-  pub met-ly : Met 1 ly vs
-  pub met-hx : Met 0 hx vs
-  pub met-hy : Met 1 hy vs
+  pub met : Met 0 lx vs × Met 0 hx vs × Met 1 ly vs × Met 1 hy vs
   pub inside : (v : Vec) → Among v vs → (lx ≤ℤ v .x) × (v .x ≤ℤ hx) × (ly ≤ℤ v .y) × (v .y ≤ℤ hy)
 
 pub surrounds : (vs : List Vec) → isNone vs ≡ false
     → Surrounds vs (extreme false 0 vs) (extreme false 1 vs) (extreme true 0 vs) (extreme true 1 vs)
 surrounds vs e = record {
-  met-lx = extreme-met false 0 vs e;
-  met-ly = extreme-met false 1 vs e;
-  met-hx = extreme-met true 0 vs e;
-  met-hy = extreme-met true 1 vs e;
+  met = (extreme-met false 0 vs e, extreme-met true 0 vs e, extreme-met false 1 vs e, extreme-met true 1 vs e);
   inside = λ v m. (
     lowest (extreme-all false 0 m),
     highest (extreme-all true 0 m),
