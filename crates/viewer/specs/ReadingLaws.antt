@@ -25,7 +25,7 @@ use Rattle.sheet.specs.ListsLaws.{Listable, object-next}
 use Rattle.sheet.specs.Flags.{either}
 use Rattle.store.specs.declared.Item.{Item}
 use Rattle.store.specs.declared.Item.the-variants.{One, End, Refused}
-use Rattle.store.specs.Stored.{Reading, got, no, next, checked, pairOf, unzigzag, sideObject, andThen, counted}
+use Rattle.store.specs.Stored.{Reading, got, no, next, checked, Drawing, before, pairOf, unzigzag, sideObject, andThen, counted}
 use Rattle.store.specs.Stored.{readGroups, readNumber, readCoordinate, readPoint, readSide, readTo, readPair, readShape, readObject, readObjects, readCount, readDrawing}
 use Rattle.store.specs.Reader.{itemOf}
 use Rattle.store.specs.ObjectsLaws.{objects-length}
@@ -128,7 +128,7 @@ told-count bs =
     told-next (λ n rest. checked (ltb most n) (pos 11) n rest) (told-number bs)
     (λ n rest u. told-checked (ltb most n) 11 n rest refl (λ e. ltb-false 512 n e))
 
--- ---- the refusal of a drawing
+-- ---- one of some numbers
 
 pub one-of : {ms : List ℕ} (n : ℕ) → among n ms ≡ true → OneOf ms (pos n)
 one-of n e = record { number = n; is = refl; one = e }
@@ -144,52 +144,43 @@ split {m} {ms} {z} o = go (either (eqb (o .number) m) (among (o .number) ms) .0 
     go (inl e) = inl (o .is ∙ ap pos (eqb-true (o .number) m e))
     go (inr e) = inr (record { number = o .number; is = o .is; one = e })
 
-objects-refusal : (n : ℕ) (bs : List ℕ) → OneOf (0 ∷ ofBytes) (readObjects n bs .refusal)
-unfolding readObjects
-objects-refusal zero [] = one-of 0 refl
-objects-refusal zero (b ∷ bs) = one-of 9 refl
-objects-refusal (suc n) bs = go (told-object bs) (objects-refusal n)
+-- ---- drawings
+
+-- the refusal is 0 or one of stored bytes, and every object is accepted
+record Sound (d : Drawing) : Type 0 where
+  of : OneOf (0 ∷ ofBytes) (d .refusal)
+  each : (k : ℕ) → k * width < length (d .objects) → Fine (objectAt (d .objects) k)
+
+sound-none : {z : ℤ} → OneOf (0 ∷ ofBytes) z → Sound (record { objects = []; refusal = z })
+sound-none o = record { of = o; each = λ k h. absurd (omega arith) }
+
+sound-before : (o : Object) (d : Drawing) → Fine o → Sound d → Sound (before o d)
+sound-before o d p s = record { of = s .of; each = each }
   where
-    go : {r : Reading Object} → Told Fine r → ((rest : List ℕ) → OneOf (0 ∷ ofBytes) (readObjects n rest .refusal))
-        → OneOf (0 ∷ ofBytes) (andThen r (λ rest. readObjects n rest) .refusal)
-    go (taken o rest e) h = h rest
-    go (refused n e) h = one-more (one-of n e)
+    each : (k : ℕ) → k * width < length (objectNumbers o ++ d .objects) → Fine (objectAt (objectNumbers o ++ d .objects) k)
+    each zero h = p
+    each (suc k) h = subst Fine (object-next (objectNumbers o ++ d .objects) k) (s .each k (omega arith))
+
+sound-objects : (n : ℕ) (bs : List ℕ) → Sound (readObjects n bs)
+unfolding readObjects
+sound-objects zero [] = sound-none (one-of 0 refl)
+sound-objects zero (b ∷ bs) = sound-none (one-of 9 refl)
+sound-objects (suc n) bs = go (told-object bs) (sound-objects n)
+  where
+    go : {r : Reading Object} → Told Fine r → ((rest : List ℕ) → Sound (readObjects n rest)) → Sound (andThen r (λ rest. readObjects n rest))
+    go (taken o rest e) h = sound-before o (readObjects n rest) e (h rest)
+    go (refused n e) h = sound-none (one-more (one-of n e))
+
+sound : (bs : List ℕ) → Sound (readDrawing bs)
+unfolding readDrawing
+sound bs = go (told-count bs)
+  where
+    go : {r : Reading ℕ} → Told (λ n. n ≤ 512) r → Sound (counted r)
+    go (taken n rest e) = sound-objects n rest
+    go (refused n e) = sound-none (one-more (one-of n e))
 
 pub bytes-refusal : (bs : List ℕ) → OneOf (0 ∷ ofBytes) (readDrawing bs .refusal)
-unfolding readDrawing
-bytes-refusal bs = go (told-count bs)
-  where
-    go : {r : Reading ℕ} → Told (λ n. n ≤ 512) r → OneOf (0 ∷ ofBytes) (counted r .refusal)
-    go (taken n rest e) = objects-refusal n rest
-    go (refused n e) = one-more (one-of n e)
-
--- ---- every object is accepted
-
-abbrev Each : List ℤ → Type 0
-Each l = (k : ℕ) → k * width < length l → Fine (objectAt l k)
-
-each-before : (o : Object) (l : List ℤ) → Fine o → Each l → Each (objectNumbers o ++ l)
-each-before o l p h zero b = p
-each-before o l p h (suc k) b = subst Fine (object-next (objectNumbers o ++ l) k) (h k (omega arith))
-
-each-read : (n : ℕ) (bs : List ℕ) → Each (readObjects n bs .objects)
-unfolding readObjects
-each-read zero [] = λ k h. absurd (omega arith)
-each-read zero (b ∷ bs) = λ k h. absurd (omega arith)
-each-read (suc n) bs = go (told-object bs) (each-read n)
-  where
-    go : {r : Reading Object} → Told Fine r → ((rest : List ℕ) → Each (readObjects n rest .objects))
-        → Each (andThen r (λ rest. readObjects n rest) .objects)
-    go (taken o rest e) h = each-before o (readObjects n rest .objects) e (h rest)
-    go (refused n e) h = λ k b. absurd (omega arith)
-
-each-drawing : (bs : List ℕ) → Each (readDrawing bs .objects)
-unfolding readDrawing
-each-drawing bs = go (readCount bs)
-  where
-    go : (r : Reading ℕ) → Each (counted r .objects)
-    go (got n rest) = each-read n rest
-    go (no n) = λ k h. absurd (omega arith)
+bytes-refusal bs = sound bs .of
 
 abbrev FineItem : Item → Type 0
 FineItem (One o) = Fine o
@@ -202,7 +193,7 @@ item-accepted bs k o e =
     let d = readDrawing bs in
     let last = cond-by FineItem (eqZ (d .refusal) (pos 0)) (λ t. tt) (λ t. tt) in
     subst FineItem e
-    (cond-by FineItem (ltb (k * width) (length (d .objects))) (λ t. each-drawing bs k (ltb-true (k * width) (length (d .objects)) t)) (λ t. last))
+    (cond-by FineItem (ltb (k * width) (length (d .objects))) (λ t. sound bs .each k (ltb-true (k * width) (length (d .objects)) t)) (λ t. last))
 
 -- an accepted drawing is a list that is not refused
 pub good : (bs : List ℕ) → readDrawing bs .refusal ≡ pos 0 → Listable (readDrawing bs .objects)
@@ -212,5 +203,5 @@ good bs e = go (told-count bs) e
     go : {r : Reading ℕ} → Told (λ n. n ≤ 512) r → counted r .refusal ≡ pos 0 → Listable (counted r .objects)
     go (taken n rest h) e =
         let l = objects-length n rest e in
-        record { whole = omega arith; few = omega arith; each = λ k b. record { accepted = each-read n rest k (omega arith) } }
+        record { whole = omega arith; few = omega arith; each = λ k b. record { accepted = sound-objects n rest .each k (omega arith) } }
     go (refused n h) e = absurd (true≢false (sym h ∙ ap (λ (z : ℤ). among (natAbs z) ofBytes) e))
