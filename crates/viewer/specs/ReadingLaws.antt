@@ -25,7 +25,7 @@ use Rattle.sheet.specs.ListsLaws.{Listable, object-next}
 use Rattle.sheet.specs.Flags.{either}
 use Rattle.store.specs.declared.Item.{Item}
 use Rattle.store.specs.declared.Item.the-variants.{One, End, Refused}
-use Rattle.store.specs.Stored.{Reading, got, no, next, checked, Drawing, before, pairOf, unzigzag, sideObject, andThen, counted}
+use Rattle.store.specs.Stored.{Reading, got, no, next, checked, Drawing, before, pairOf, unzigzag, andThen, counted}
 use Rattle.store.specs.Stored.{readGroups, readNumber, readCoordinate, readPoint, readSide, readTo, readPair, readShape, readObject, readObjects, readCount, readDrawing}
 use Rattle.store.specs.Reader.{itemOf}
 use Rattle.store.specs.ObjectsLaws.{objects-length}
@@ -38,10 +38,10 @@ data Told {A : Type 0} (P : A → Type 0) : Reading A → Type 0 where
   refused : (n : ℕ) → among n ofBytes ≡ true → Told P (no (pos n))
 
 told-next :
-    {A B : Type 0} {P : A → Type 0} {Q : B → Type 0} {r : Reading A} (f : A → List ℕ → Reading B) → Told P r
+    {A B : Type 0} {P : A → Type 0} {Q : B → Type 0} {r : Reading A} {f : A → List ℕ → Reading B} → Told P r
     → ((a : A) (rest : List ℕ) → P a → Told Q (f a rest)) → Told Q (next r f)
-told-next f (taken a rest p) h = h a rest p
-told-next f (refused n e) h = refused n e
+told-next (taken a rest p) h = h a rest p
+told-next (refused n e) h = refused n e
 
 told-cond : {A : Type 0} {P : A → Type 0} (t : Bool) {r s : Reading A} → Told P r → (t ≡ false → Told P s) → Told P (cond t r s)
 told-cond true h k = h
@@ -61,9 +61,7 @@ told-groups zero [] = refused 7 refl
 told-groups (suc more) [] = refused 7 refl
 told-groups zero (b ∷ bs) = told-cond (ltb b 128) (taken b bs tt) (λ z. refused 8 refl)
 told-groups (suc more) (b ∷ bs) =
-    told-cond (ltb b 128) (taken b bs tt)
-    (λ z. told-next (λ n rest. checked (eqb n 0) (pos 8) (b - 128 + 128 * n) rest) (told-groups more bs)
-    (λ n rest u. told-checked (eqb n 0) 8 (b - 128 + 128 * n) rest refl (λ f. tt)))
+    told-cond (ltb b 128) (taken b bs tt) (λ z. told-next (told-groups more bs) (λ n rest u. told-checked (eqb n 0) 8 _ rest refl (λ f. tt)))
 
 told-number : (bs : List ℕ) → Told Any (readNumber bs)
 told-number bs = told-groups 1 bs
@@ -73,9 +71,7 @@ Near z = beyond z ≡ false
 
 told-coordinate : (bs : List ℕ) → Told Near (readCoordinate bs)
 unfolding readCoordinate
-told-coordinate bs =
-    told-next (λ n rest. checked (beyond (unzigzag n)) (pos 2) (unzigzag n) rest) (told-number bs)
-    (λ n rest u. told-checked (beyond (unzigzag n)) 2 (unzigzag n) rest refl (λ e. e))
+told-coordinate bs = told-next (told-number bs) (λ n rest u. told-checked (beyond (unzigzag n)) 2 _ rest refl (λ e. e))
 
 abbrev Both : Vec → Type 0
 Both p = Near (p .x) × Near (p .y)
@@ -83,8 +79,7 @@ Both p = Near (p .x) × Near (p .y)
 told-point : (bs : List ℕ) → Told Both (readPoint bs)
 unfolding readPoint
 told-point bs =
-    told-next (λ x rest. next (readCoordinate rest) (λ y rest. got (pairOf x y) rest)) (told-coordinate bs)
-    (λ x rest e. told-next (λ y rest. got (pairOf x y) rest) (told-coordinate rest) (λ y rest f. taken (pairOf x y) rest (e, f)))
+    told-next (told-coordinate bs) (λ x rest e. told-next (told-coordinate rest) (λ y rest f. taken (pairOf x y) rest (e, f)))
 
 -- ---- objects
 
@@ -93,24 +88,18 @@ Fine o = objectRefusal o ≡ pos 0
 
 told-side : (bs : List ℕ) → Told Fine (readSide bs)
 unfolding readSide objectRefusal sideRefusal
-told-side bs =
-    told-next (λ n rest. checked (outside (pos 1) (pos 4) (pos n)) (pos 4) (sideObject (pos n)) rest) (told-number bs)
-    (λ n rest u. told-checked (outside (pos 1) (pos 4) (pos n)) 4 (sideObject (pos n)) rest refl (λ e. simp e))
+told-side bs = told-next (told-number bs) (λ n rest u. told-checked (outside (pos 1) (pos 4) (pos n)) 4 _ rest refl (λ e. simp e))
 
 module _ (kind : ℕ) (in-range : outside (pos 1) (pos 4) (pos kind) ≡ false) (other : eqb kind 4 ≡ false) where
-  abbrev to : Vec → Vec → Object
-  to p q = record { kind = pos kind; px = p .x; py = p .y; qx = q .x; qy = q .y }
-
   told-to : (p : Vec) (bs : List ℕ) → Both p → Told Fine (readTo kind p bs)
   unfolding readTo objectRefusal pairRefusal
   told-to p bs h =
-      told-next (λ q rest. checked (equal (p .x) (p .y) (q .x) (q .y)) (pos 3) (to p q) rest) (told-point bs)
-      (λ q rest k. told-checked (equal (p .x) (p .y) (q .x) (q .y)) 3 (to p q) rest refl
-      (λ e. simp (in-range, other, h .0, h .1, k .0, k .1, e)))
+      told-next (told-point bs)
+      (λ q rest k. told-checked (equal (p .x) (p .y) (q .x) (q .y)) 3 _ rest refl (λ e. simp (in-range, other, h .0, h .1, k .0, k .1, e)))
 
   told-pair : (bs : List ℕ) → Told Fine (readPair kind bs)
   unfolding readPair
-  told-pair bs = told-next (λ p rest. readTo kind p rest) (told-point bs) (λ p rest h. told-to p rest h)
+  told-pair bs = told-next (told-point bs) (λ p rest h. told-to p rest h)
 
 told-shape : (kind : ℕ) (bs : List ℕ) → outside (pos 1) (pos 4) (pos kind) ≡ false → Told Fine (readShape kind bs)
 unfolding readShape
@@ -119,14 +108,12 @@ told-shape kind bs e = told-cond (eqb kind 4) (told-side bs) (λ f. told-pair ki
 told-object : (bs : List ℕ) → Told Fine (readObject bs)
 unfolding readObject
 told-object bs =
-    told-next (λ kind rest. cond (outside (pos 1) (pos 4) (pos kind)) (no (pos 1)) (readShape kind rest)) (told-number bs)
+    told-next (told-number bs)
     (λ kind rest u. told-cond (outside (pos 1) (pos 4) (pos kind)) (refused 1 refl) (λ e. told-shape kind rest e))
 
 told-count : (bs : List ℕ) → Told (λ n. n ≤ 512) (readCount bs)
 unfolding readCount
-told-count bs =
-    told-next (λ n rest. checked (ltb most n) (pos 11) n rest) (told-number bs)
-    (λ n rest u. told-checked (ltb most n) 11 n rest refl (λ e. ltb-false 512 n e))
+told-count bs = told-next (told-number bs) (λ n rest u. told-checked (ltb most n) 11 _ rest refl (λ e. ltb-false 512 n e))
 
 -- ---- one of some numbers
 
