@@ -1,7 +1,6 @@
 -- The viewer's calls, step by step as the code goes. To cite:
 --   call-more                 a later call of a reader is one call fewer from the place after this one
 --   place-far, place-near     a point beyond 2,000 and one that is not; side-taken: the kernel then refuses nothing
---   signed-sign, signed-refused   what the kernel says where it refuses nothing
 --   bytes-within              a refusal of stored bytes is a small number
 --   answer-bytes, answer-index, answer-object   the bytes' own refusal, 13, and the side of the object
 --   farIndex, index-far, Natural, index-natural   an index that no drawing has, and a natural one
@@ -21,12 +20,9 @@ use lib.Signed.{ltZ, leZ}
 use Rattle.whole.specs.Bound.{Within, w-intro, w-is}
 use Rattle.whole.specs.Tests.{eq-eqZ, ne-eqZ}
 use Rattle.sheet.specs.declared.Object.{Object}
-use Rattle.sheet.specs.declared.Signed.the-variants.{Sign, Refused}
 use Rattle.sheet.specs.Refusal.{beyond, objectRefusal}
 use Rattle.sheet.specs.Points.{pointRefusal}
 use Rattle.sheet.specs.Signs.{sideSign, sideSignRefusal}
-use Rattle.sheet.specs.Answers.{answer, signedSays}
-use Rattle.sheet.specs.AnswersLaws.{accepted}
 use Rattle.sheet.specs.Lists.{width, countOf, objectAt}
 use Rattle.sheet.specs.ListsLaws.{Listable}
 use Rattle.sheet.specs.Flags.{both, neither, either, flags}
@@ -69,13 +65,6 @@ module _ (x y : ℤ) where
     pub side-taken : (o : Object) → objectRefusal o ≡ pos 0 → sideSignRefusal o (whole x y) ≡ pos 0
     unfolding sideSignRefusal
     side-taken o h = simp (eq-eqZ h, place-point)
-
-pub signed-sign : (n s v : ℤ) → n ≡ pos 0 → signedSays (Sign s) ≡ answer n (v ∷ []) → s ≡ v
-signed-sign n s v z e = let f : pos 0 ∷ s ∷ [] ≡ pos 0 ∷ v ∷ [] = e ∙ accepted (v ∷ []) z in cc
-
-pub signed-refused : (n m v : ℤ) → n ≡ pos 0 → signedSays (Refused m) ≡ answer n (v ∷ []) → ⊥
-signed-refused n m v z e =
-    let f : m ∷ [] ≡ pos 0 ∷ v ∷ [] = e ∙ accepted (v ∷ []) z in let z : _≡_ {A = ℕ} 0 1 = cc in omega arith
 
 -- ---- numbers of refusals
 

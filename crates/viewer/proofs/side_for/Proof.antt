@@ -3,20 +3,22 @@ use borrow.Author.Needs.{needs}
 use mathlib.Core.Path.{_≡_, sym, ap, _∙_}
 use mathlib.Core.Bool.{false, _||_}
 use mathlib.Core.List.{[], _∷_}
-use Prim.Native.Nat.{_<_, _^_}
+use Prim.Native.Nat.{ℕ, _<_, _^_}
 use native.Mathlib.Omega.{arith}
 use lib.Signed.{mag}
 use lib.IntN.{pos}
 use Rattle.whole.specs.Bound.{fits64, w-is}
 use Rattle.whole.specs.Tests.{out-is}
 use Rattle.sheet.specs.declared.Point.{Point}
+use Rattle.sheet.specs.declared.Signed.the-variants.{Sign}
 use Rattle.sheet.specs.Refusal.{beyond}
 use Rattle.sheet.specs.Signs.{sideSign, sideSignRefusal}
-use Rattle.sheet.specs.Answers.{answer, signedSays}
+use Rattle.sheet.specs.Answers.{answer}
+use Rattle.sheet.specs.AnswersLaws.{accepted, signed-one}
 use Rattle.sheet.specs.SignsLaws.{side-sign-within}
 use Rattle.kernel.proofs.Handed as handed
 use Rattle.viewer.specs.Calls.{whole}
-use Rattle.viewer.specs.CallsLaws.{place-far, place-near, side-taken, signed-sign, signed-refused}
+use Rattle.viewer.specs.CallsLaws.{place-far, place-near, side-taken}
 use Rattle.viewer.proofs.side_for.Statement.{statement}
 use Rattle.viewer.proofs.side_for.Tie as tie
 
@@ -57,13 +59,15 @@ module _ (c : tie.After-side-of) where
   none = side-taken (s .args .x) (s .args .y) near (s .args .o) (s .pre .accepted)
 
   -- the point is handed on number by number
-  said : signedSays (c .side-of .result) ≡ answer (sideSignRefusal (s .args .o) p) (sideSign (s .args .o) p ∷ [])
+  said : c .side-of .result ≡ Sign (sideSign (s .args .o) p)
   said =
       let nought : mag (pos 0) < 2 ^ 63 = omega arith in
       let one : mag (pos 1) < 2 ^ 63 = omega arith in
-      c .side-of .ensures
+      signed-one (c .side-of .result) (Sign (sideSign (s .args .o) p))
+      (c .side-of .ensures
       ∙ ap (λ (q : Point). answer (sideSignRefusal (s .args .o) q) (sideSign (s .args .o) q ∷ []))
       (handed.point p nought (s .fits .x .sfits) nought (s .fits .y .sfits) one)
+      ∙ accepted (sideSign (s .args .o) p ∷ []) none)
 
 enum-known-signed : tie.Need-enum-known-signed
 enum-known-signed c = search needs
@@ -73,8 +77,9 @@ enum-known-signed-2 c = search needs
 
 never : (c : tie.After-known-told2) → ⊥
 never c =
-    let k = c .before .before .before in
-    signed-refused _ (c .before .signed2 .given .0 .0) _ (none k) (sym (ap signedSays (c .before .signed2 .given .1)) ∙ said k)
+    let e = sym (c .before .signed2 .given .1) ∙ said (c .before .before .before) in
+    let z : _≡_ {A = ℕ} 0 1 = cc in
+    omega arith
 
 add-result-2 : tie.Need-add-result-2
 add-result-2 c = absurd (never c)
@@ -83,7 +88,8 @@ returns-2 : tie.Need-returns-2
 returns-2 c =
     let k = c .before .before .before in
     let a = s k .args in
-    let is = signed-sign _ (c .before .signed .given .0 .0) _ (none k) (sym (ap signedSays (c .before .signed .given .1)) ∙ said k) in
+    let e = sym (c .before .signed .given .1) ∙ said k in
+    let is : c .before .signed .given .0 .0 ≡ sideSign (a .o) (p k) = cc in
     out-is (fits64 (w-is is (side-sign-within (a .o) (p k))) tt)
     ∙ is
     ∙ place-near (a .x) (a .y) (near k) (a .o)
