@@ -13,8 +13,7 @@ use mathlib.Core.List.{List, [], _∷_}
 use Prim.Native.Nat.{ℕ}
 use lib.IntN.{ℤ}
 use lib.Signed.{ltZ, _≤ℤ_, ≤ℤ-refl}
-use Rattle.whole.specs.Order.{≤-trans, <-≤, pp-pos}
-use Rattle.whole.specs.Bound.{w-lit, w-pos}
+use Rattle.whole.specs.Order.{≤-trans, <-≤}
 use Rattle.whole.specs.Tests.{cond-by, ltZ-true, ltZ-false}
 use Rattle.sheet.specs.declared.Object.{Object}
 use Rattle.sheet.specs.declared.Point.{Point}
@@ -22,13 +21,13 @@ use Rattle.sheet.specs.Figure.{Vec, _⇀_, Side, left, bottom, right, top, Figu
 use Rattle.sheet.specs.Refusal.{Accepted}
 use Rattle.sheet.specs.RefusalLaws.{Small, Taken, a-segment, a-ray, a-line, a-side, accepted-taken}
 use Rattle.sheet.specs.Points.{given, standard}
-use Rattle.sheet.specs.PointsLaws.{standard-is, frame-divided}
+use Rattle.sheet.specs.PointsLaws.{frame-divided}
 use Rattle.sheet.specs.Ends.{moment, farEnd, reverse, begins, nextSide, firstOf, lastOf, firstEnd, lastEnd}
-use Rattle.sheet.specs.EndsLaws.{Way, proper-way, reverse-way, far-frame}
+use Rattle.sheet.specs.EndsLaws.{Way, proper-way, reverse-way, far-frame, given-fine}
 use Rattle.screen.specs.declared.Extent.{Extent}
 use Rattle.screen.specs.Quotient.{zero+}
 use Rattle.screen.specs.QuotientLaws.{float-zero}
-use Rattle.screen.specs.PlacesLaws.{frame-standard}
+use Rattle.screen.specs.PlacesLaws.{flat-is, frame-standard}
 use Rattle.screen.specs.Extents.{standardEnds, beyond, farther, part, farthest, extreme, isNone, extentOf}
 
 -- ---- the standard ends
@@ -43,13 +42,7 @@ givens [] = []
 givens (v ∷ vs) = given v ∷ givens vs
 
 given-standard : {v : Vec} → Small 2000 v → standard (given v) ≡ true
-given-standard {v} s = standard-is (given v) .1 (record {
-  no-mx = refl;
-  no-my = refl;
-  in-w = record { above = pp-pos 0; at-most = w-lit (w-pos 1) tt };
-  in-nx = w-lit (s .in-x) tt;
-  in-ny = w-lit (s .in-y) tt;
-})
+given-standard s = sym (flat-is (given-fine s .point))
 
 far-standard : (p d : Vec) → Way (d .x) (d .y) (moment p d) → standard (farEnd p d) ≡ false
 unfolding farEnd
