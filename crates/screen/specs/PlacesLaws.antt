@@ -28,8 +28,8 @@ use Rattle.sheet.specs.PointsLaws.{Standard, OnEdge, Frame, APoint, a-standard,
 use Rattle.sheet.specs.RefusalLaws.{sideNumber}
 use Rattle.screen.specs.declared.Place.{Place}
 use Rattle.screen.specs.declared.Place.the-variants.{At, Edge, Refused}
-use Rattle.screen.specs.Quotient.{quotient, Parts, Near}
-use Rattle.screen.specs.QuotientLaws.{quotient-near}
+use Rattle.screen.specs.Quotient.{quotient, Near}
+use Rattle.screen.specs.QuotientLaws.{Parts, quotient-near}
 use Rattle.screen.specs.Told.{Told}
 use Rattle.screen.specs.ToldLaws.{as-many}
 use Rattle.screen.specs.Places.{placeSays, exactly, isOn, goesTo, sideWhere, along, positionOf, edgeOf, placeOf}

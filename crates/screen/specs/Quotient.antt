@@ -7,8 +7,6 @@ use lib.IntN.{ℤ, pos, negℤ, natAbs, _*ℤ_, _-ℤ_}
 use lib.Dec.{T}
 use lib.Ieee.{Float, nan, inf, fin, binary64, up, down, div, ofInt}
 use lib.Ieee.Scale.{finite}
-use Rattle.whole.specs.Bound.{Within}
-use Rattle.sheet.specs.PointsLaws.{Upto}
 
 -- a whole number as a float
 unfoldable pub float : ℤ → Float
@@ -22,11 +20,6 @@ quotient n w = div binary64 (float n) (float w)
 -- +0
 abbrev pub zero+ : Float
 zero+ = fin false 0 (pos 0)
-
--- the numbers that are divided: those of points
-pub record Parts (n w : ℤ) : Type 0 where
-  pub in-n : Within 64000000000 n
-  pub in-w : Upto 32000000 w
 
 -- ---- a float as an exact fraction, over / under
 
