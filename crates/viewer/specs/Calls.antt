@@ -49,7 +49,3 @@ sideIn d i x y = signOr (callRefusal d i x y) (sideSign (object d i) (whole x y)
 
 abbrev pub sideAnswer : List ℕ → ℤ → ℤ → ℤ → ℤ
 sideAnswer bytes i x y = sideIn (readDrawing bytes) i x y
-
--- the same once the object is found
-unfoldable pub sideFor : Object → ℤ → ℤ → ℤ
-sideFor o x y = signOr (placeRefusal x y) (sideSign o (whole x y))

@@ -1,5 +1,6 @@
 -- The viewer's calls, step by step as the code goes. To cite:
 --   call-more                 a later call of a reader is one call fewer from the place after this one
+--   sideFor                   the answer once the object is found
 --   place-far, place-near     a point beyond 2,000 and one that is not; side-taken: the kernel then refuses nothing
 --   bytes-within              a refusal of stored bytes is a small number
 --   answer-bytes, answer-index, answer-object   the bytes' own refusal, 13, and the side of the object
@@ -20,6 +21,7 @@ use lib.Signed.{ltZ, leZ}
 use Rattle.whole.specs.Bound.{Within, w-intro, w-is}
 use Rattle.whole.specs.Tests.{eq-eqZ, ne-eqZ}
 use Rattle.sheet.specs.declared.Object.{Object}
+use Rattle.sheet.specs.Limits.{most}
 use Rattle.sheet.specs.Refusal.{beyond, objectRefusal}
 use Rattle.sheet.specs.Points.{pointRefusal}
 use Rattle.sheet.specs.Signs.{sideSign, sideSignRefusal}
@@ -33,7 +35,7 @@ use Rattle.store.specs.declared.Place.{Place}
 use Rattle.store.specs.declared.Item.the-variants.{One, End}
 use Rattle.store.specs.Stored.{Drawing, readDrawing}
 use Rattle.store.specs.Reader.{stepOf, callFrom, endOf, itemOf}
-use Rattle.viewer.specs.Calls.{object, whole, indexRefusal, sideIn, sideFor}
+use Rattle.viewer.specs.Calls.{object, whole, indexRefusal, placeRefusal, signOr, sideIn}
 use Rattle.viewer.specs.Answered.{OneOf, ofBytes}
 use Rattle.viewer.specs.ReadingLaws.{split, bytes-refusal}
 
@@ -43,6 +45,10 @@ call-more bs p zero h = absurd (omega arith)
 call-more bs p (suc k) h = let e : k ≡ suc k - 1 = omega arith in ap (callFrom bs (stepOf bs p .place)) e
 
 -- ---- the point
+
+-- the side once the object is found
+unfoldable pub sideFor : Object → ℤ → ℤ → ℤ
+sideFor o x y = signOr (placeRefusal x y) (sideSign o (whole x y))
 
 module _ (x y : ℤ) where
   pub place-far : (o : Object) → (beyond x || beyond y) ≡ true → pos 102 ≡ sideFor o x y
@@ -101,16 +107,16 @@ module _ (d : Drawing) (i x y : ℤ) where
 
 -- below 0, or too large for any drawing
 abbrev pub farIndex : ℤ → Bool
-farIndex i = ltZ i (pos 0) || leZ (pos 512) i
+farIndex i = ltZ i (pos 0) || leZ (pos most) i
 
 -- else a natural number
 pub record Natural (i : ℤ) : Type 0 where
   pub is : i ≡ pos (natAbs i)
-  pub small : natAbs i < 512
+  pub small : natAbs i < most
 
 pub index-natural : (i : ℤ) → farIndex i ≡ false → Natural i
 index-natural (negsuc k) e = absurd (true≢false e)
-index-natural (pos k) e = record { is = refl; small = leb-false 512 k (neither (ltb k 0) (leb 512 k) .0 e .1) }
+index-natural (pos k) e = record { is = refl; small = leb-false most k (neither (ltb k 0) (leb most k) .0 e .1) }
 
 module _ (d : Drawing) (g : Listable (d .objects)) where
   index-past : (k : ℕ) → countOf (d .objects) ≤ k → indexRefusal d (pos k) ≡ pos 13
@@ -118,11 +124,11 @@ module _ (d : Drawing) (g : Listable (d .objects)) where
 
   pub index-far : (i : ℤ) → farIndex i ≡ true → indexRefusal d i ≡ pos 13
   index-far (negsuc k) e = refl
-  index-far (pos k) e = go (either (ltb k 0) (leb 512 k) .0 e)
+  index-far (pos k) e = go (either (ltb k 0) (leb most k) .0 e)
     where
-      go : (ltb k 0 ≡ true) ⊎ (leb 512 k ≡ true) → indexRefusal d (pos k) ≡ pos 13
+      go : (ltb k 0 ≡ true) ⊎ (leb most k ≡ true) → indexRefusal d (pos k) ≡ pos 13
       go (inl f) = let l = ltb-true k 0 f in absurd (omega arith)
-      go (inr f) = index-past k (omega (arith, leb-true 512 k f, g .few))
+      go (inr f) = index-past k (omega (arith, leb-true most k f, g .few))
 
   -- ---- the object
 

@@ -111,9 +111,9 @@ told-object bs =
     told-next (told-number bs)
     (λ kind rest u. told-cond (outside (pos 1) (pos 4) (pos kind)) (refused 1 refl) (λ e. told-shape kind rest e))
 
-told-count : (bs : List ℕ) → Told (λ n. n ≤ 512) (readCount bs)
+told-count : (bs : List ℕ) → Told (λ n. n ≤ most) (readCount bs)
 unfolding readCount
-told-count bs = told-next (told-number bs) (λ n rest u. told-checked (ltb most n) 11 _ rest refl (λ e. ltb-false 512 n e))
+told-count bs = told-next (told-number bs) (λ n rest u. told-checked (ltb most n) 11 _ rest refl (λ e. ltb-false most n e))
 
 -- ---- one of some numbers
 
@@ -162,7 +162,7 @@ sound : (bs : List ℕ) → Sound (readDrawing bs)
 unfolding readDrawing
 sound bs = go (told-count bs)
   where
-    go : {r : Reading ℕ} → Told (λ n. n ≤ 512) r → Sound (counted r)
+    go : {r : Reading ℕ} → Told (λ n. n ≤ most) r → Sound (counted r)
     go (taken n rest e) = sound-objects n rest
     go (refused n e) = sound-none (one-more (one-of n e))
 
@@ -187,7 +187,7 @@ pub good : (bs : List ℕ) → readDrawing bs .refusal ≡ pos 0 → Listable (r
 unfolding readDrawing
 good bs e = go (told-count bs) e
   where
-    go : {r : Reading ℕ} → Told (λ n. n ≤ 512) r → counted r .refusal ≡ pos 0 → Listable (counted r .objects)
+    go : {r : Reading ℕ} → Told (λ n. n ≤ most) r → counted r .refusal ≡ pos 0 → Listable (counted r .objects)
     go (taken n rest h) e =
         let l = objects-length n rest e in
         record { whole = omega arith; few = omega arith; each = λ k b. record { accepted = sound-objects n rest .each k (omega arith) } }

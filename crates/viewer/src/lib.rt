@@ -7,7 +7,8 @@ ghost use mathlib.Core.Path.{_≡_};
 ghost use Rattle.sheet.specs.Refusal.{beyond, Accepted};
 ghost use Rattle.store.specs.Stored.{readDrawing};
 ghost use Rattle.store.specs.Reader.{itemOf};
-ghost use Rattle.viewer.specs.Calls.{checkAnswer, sideAnswer, sideFor};
+ghost use Rattle.viewer.specs.Calls.{checkAnswer, sideAnswer};
+ghost use Rattle.viewer.specs.CallsLaws.{sideFor};
 
 // What a refusal is added to, so that it is no sign.
 const REFUSED: i64 = 100;
