@@ -3,8 +3,7 @@
 --   corner-side     the side of a corner begins there;  side-where   a frame point is on its side, and not where that side ends
 --   side-only       and it is so of no other side
 --   sideBy          `sideWhere` by the flags of the four sides
---   Placed, placed  the place of a point, with the error of each of its values
---   Ratios, ratios  the numbers of a point that are divided are within the limits
+--   Ratios, ratios, along-parts   the numbers of a point that are divided are within the limits
 --   alongNumber, along-is   the coordinate along a side, by the side's number
 --   flat-is         a point is standard exactly where mx and my are 0;  frame-standard   on the frame it is not
 --   place-standard, place-frame   the place by whether the point is standard
@@ -28,8 +27,7 @@ use Rattle.sheet.specs.PointsLaws.{Standard, OnEdge, Frame, APoint, a-standard,
 use Rattle.sheet.specs.RefusalLaws.{sideNumber}
 use Rattle.screen.specs.declared.Place.{Place}
 use Rattle.screen.specs.declared.Place.the-variants.{At, Edge, Refused}
-use Rattle.screen.specs.Quotient.{quotient, Near}
-use Rattle.screen.specs.QuotientLaws.{Parts, quotient-near}
+use Rattle.screen.specs.QuotientLaws.{Parts}
 use Rattle.screen.specs.Told.{Told}
 use Rattle.screen.specs.ToldLaws.{as-many}
 use Rattle.screen.specs.Places.{placeSays, exactly, isOn, goesTo, sideWhere, along, positionOf, edgeOf, placeOf}
@@ -239,25 +237,8 @@ ratios a =
       in-my = record { in-n = w-lit (s .in-my) tt; in-w = s .in-w };
     }
 
-along-parts : {p : Point} (s : Side) → Ratios p → Parts (along s p) (p .w)
+pub along-parts : {p : Point} (s : Side) → Ratios p → Parts (along s p) (p .w)
 along-parts left r = r .in-my
 along-parts bottom r = r .in-mx
 along-parts right r = r .in-my
 along-parts top r = r .in-mx
-
--- the place of a point: each value is near its fraction, and a frame point is on its side, not where that one ends
-pub data Placed (p : Point) : Type 0 where
-  at-position : Standard p → placeOf p ≡ positionOf p
-      → Near (p .nx) (p .w) (quotient (p .nx) (p .w)) → Near (p .ny) (p .w) (quotient (p .ny) (p .w)) → Placed p
-  on-edge : Frame p → placeOf p ≡ edgeOf p → goesTo (sideWhere p) p ≡ true
-      → Near (along (sideWhere p) p) (p .w) (quotient (along (sideWhere p) p) (p .w)) → Placed p
-
-pub placed : {p : Point} → APoint p → Placed p
-placed {p} (a-standard s e) =
-    let r = ratios (a-standard s e) in
-    at-position s (place-standard p (standard-is p .1 s))
-    (quotient-near (r .in-nx)) (quotient-near (r .in-ny))
-placed {p} (a-frame f e) =
-    let r = ratios (a-frame f e) in
-    on-edge f (place-frame p (frame-standard f)) (side-where f)
-    (quotient-near (along-parts (sideWhere p) r))

@@ -8,14 +8,15 @@ use lib.Ieee.{Float}
 use Rattle.sheet.specs.declared.Point.{Point}
 use Rattle.sheet.specs.Figure.{Side}
 use Rattle.sheet.specs.Points.{isPoint, pointRefusal}
-use Rattle.sheet.specs.PointsLaws.{Standard, Frame, point-is}
+use Rattle.sheet.specs.PointsLaws.{Standard, Frame, APoint, a-standard, a-frame, standard-is, point-is}
 use Rattle.sheet.specs.RefusalLaws.{sideNumber}
 use Rattle.screen.specs.declared.Place.{Place}
 use Rattle.screen.specs.declared.Place.the-variants.{At, Edge, Refused}
 use Rattle.screen.specs.Quotient.{Near}
+use Rattle.screen.specs.QuotientLaws.{quotient-near}
 use Rattle.screen.specs.Told.{answered}
 use Rattle.screen.specs.Places.{placeSays, goesTo, sideWhere, along, placeOf}
-use Rattle.screen.specs.PlacesLaws.{place-one, Placed, at-position, on-edge, placed}
+use Rattle.screen.specs.PlacesLaws.{place-one, side-where, frame-standard, place-standard, place-frame, ratios, along-parts}
 
 pub data Shown (p : Point) : Place → Type 0 where
   a-position : {x y : Float} → Standard p → Near (p .nx) (p .w) x → Near (p .ny) (p .w) y → Shown p (At x y)
@@ -29,10 +30,14 @@ shown p r e = go (isPoint p) refl e
     is : {q : Place} → Shown p q → placeSays r ≡ placeSays q → Shown p r
     is {q} h f = subst (Shown p) (sym (place-one r q f)) h
 
-    accepted : Placed p → placeSays r ≡ placeOf p → Shown p r
-    accepted (at-position s f x y) e = is (a-position s x y) (e ∙ f)
-    accepted (on-edge f g s t) e = is (an-edge (sideWhere p) f s t) (e ∙ g)
+    accepted : APoint p → placeSays r ≡ placeOf p → Shown p r
+    accepted (a-standard s d) e =
+        let n = ratios (a-standard s d) in
+        is (a-position s (quotient-near (n .in-nx)) (quotient-near (n .in-ny))) (e ∙ place-standard p (standard-is p .1 s))
+    accepted (a-frame f d) e =
+        let near = quotient-near (along-parts (sideWhere p) (ratios (a-frame f d))) in
+        is (an-edge (sideWhere p) f (side-where f) near) (e ∙ place-frame p (frame-standard f))
 
     go : (t : Bool) → isPoint p ≡ t → placeSays r ≡ answered (cond t (pos 0) (pos 5)) (placeOf p) → Shown p r
-    go true t e = accepted (placed (point-is p .0 t)) e
+    go true t e = accepted (point-is p .0 t) e
     go false t e = is (no-point t) e
