@@ -4,7 +4,7 @@
 --   All, also, none    a bound for each local: `h also k also none`
 --   need               an operation does not wrap:  `need bounds e tt`, e as the code writes it
 --   gives, raw-is      the value that is read; the value before it is stored
---   lt-gives, le-gives, eq-gives, ne-gives   a test of two expressions
+--   lt-gives, eq-gives, ne-gives   a test of two expressions
 --   back               a bounded number out of a local is the number
 --   small, held        the value, and what is read, is within the bound that `bnd` computes
 -- Assumes nothing.
@@ -15,7 +15,7 @@ use Prim.Native.Nat.{ℕ, zero, suc, _+_, _*_, _^_}
 use native.Mathlib.Nat.{le-refl}
 use lib.Dec.{T, ltb}
 use lib.IntN.{ℤ, pos, negℤ, natAbs, _+ℤ_, _-ℤ_, _*ℤ_}
-use lib.Signed.{ltZ, leZ}
+use lib.Signed.{ltZ}
 use mir.Syntax.{w64}
 use mir.Val.{SFits, ofZ}
 use Rattle.whole.specs.Ring.{Expr, var, con, lit, _⊕_, _⊖_, _⊗_, ⊝_, at, ev}
@@ -140,9 +140,6 @@ module _ {β : List ℕ} {ρ : List ℤ} (h : All β ρ) where
 
   pub lt-gives : {f : Bool} (a b : Expr) → T (okay β a) → T (okay β b) → ltZ (mach ρ a) (mach ρ b) ≡ f → ltZ (ev ρ a) (ev ρ b) ≡ f
   lt-gives a b t u e = ap₂ ltZ (sym (gives a t)) (sym (gives b u)) ∙ e
-
-  pub le-gives : {f : Bool} (a b : Expr) → T (okay β a) → T (okay β b) → leZ (mach ρ a) (mach ρ b) ≡ f → leZ (ev ρ a) (ev ρ b) ≡ f
-  le-gives a b t u e = ap₂ leZ (sym (gives a t)) (sym (gives b u)) ∙ e
 
   -- `==` is a test of bits
   pub eq-gives : (a b : Expr) → T (okay β a) → T (okay β b) → ofZ w64 (raw ρ a) ≡ ofZ w64 (raw ρ b) → ev ρ a ≡ ev ρ b

@@ -3,8 +3,8 @@
 --   lt-ltZ, le-ltZ, le-leZ, lt-leZ, eq-eqZ, ne-eqZ                  the flag from what holds
 --   cond-by                     what holds of both choices, each where its flag says so, holds of the choice
 --   out, out-is, out-ok         a number as it comes out of a local is the number; fits-ok: a call's result fits
---   lt-flag, le-flag, eq-flag, lit-flag   the flag of two numbers out of locals is that of the numbers
---   lt-taken, lt-left, le-taken, le-left, eq-taken, eq-left         a branch of the code, as an order or an equation
+--   lt-flag, eq-flag, lit-flag   the flag of two numbers out of locals is that of the numbers
+--   lt-taken, lt-left, eq-taken, eq-left                            a branch of the code, as an order or an equation
 -- Assumes nothing.
 use mathlib.Core.Path.{_≡_, refl, sym, _∙_, ap, ap₂, subst}
 use mathlib.Core.Bool.{Bool, true, false, not, cond, true≢false}
@@ -119,20 +119,11 @@ out-ok z h = out-is (fits-ok z h)
 pub lt-flag : {x y : ℤ} {t : Bool} → SFits w64 x → SFits w64 y → ltZ (out x) (out y) ≡ t → ltZ x y ≡ t
 lt-flag f g e = ap₂ ltZ (sym (out-is f)) (sym (out-is g)) ∙ e
 
-pub le-flag : {x y : ℤ} {t : Bool} → SFits w64 x → SFits w64 y → leZ (out x) (out y) ≡ t → leZ x y ≡ t
-le-flag f g e = ap₂ leZ (sym (out-is f)) (sym (out-is g)) ∙ e
-
 pub lt-taken : {x y : ℤ} → SFits w64 x → SFits w64 y → ltZ (out x) (out y) ≡ true → x <ℤ y
 lt-taken f g e = ltZ-true (lt-flag f g e)
 
 pub lt-left : {x y : ℤ} → SFits w64 x → SFits w64 y → ltZ (out x) (out y) ≡ false → y ≤ℤ x
 lt-left f g e = ltZ-false (lt-flag f g e)
-
-pub le-taken : {x y : ℤ} → SFits w64 x → SFits w64 y → leZ (out x) (out y) ≡ true → x ≤ℤ y
-le-taken f g e = leZ-true (le-flag f g e)
-
-pub le-left : {x y : ℤ} → SFits w64 x → SFits w64 y → leZ (out x) (out y) ≡ false → y <ℤ x
-le-left f g e = leZ-false (le-flag f g e)
 
 pub eq-taken : {x y : ℤ} → SFits w64 x → SFits w64 y → ofZ w64 x ≡ ofZ w64 y → x ≡ y
 eq-taken f g e = sym (out-is f) ∙ ap (toZ w64) e ∙ out-is g
