@@ -10,10 +10,11 @@
 -- Assumes nothing.
 use mathlib.Core.Path.{_≡_, refl, sym, _∙_, ap, ap₂, subst}
 use mathlib.Core.List.{List, [], _∷_}
-use mathlib.Core.Bool.{Bool, true, false, _&&_}
+use mathlib.Core.Bool.{Bool, _&&_}
 use Prim.Native.Nat.{ℕ, zero, suc, _+_, _*_, _^_}
 use native.Mathlib.Nat.{le-refl}
 use lib.Dec.{T, ltb}
+use lib.Ieee.Fits.{and-l, and-r}
 use lib.IntN.{ℤ, pos, negℤ, natAbs, _+ℤ_, _-ℤ_, _*ℤ_}
 use lib.Signed.{ltZ}
 use mir.Syntax.{w64}
@@ -73,14 +74,6 @@ all-at : (β : List ℕ) (ρ : List ℤ) → All β ρ → (i : ℕ) → Within 
 all-at _ _ none i = w-pos 0
 all-at _ _ (h also hs) zero = h
 all-at _ _ (_also_ {β = β} {ρ = ρ} h hs) (suc i) = all-at β ρ hs i
-
-and-l : (a b : Bool) → T (a && b) → T a
-and-l true b t = tt
-and-l false b t = t
-
-and-r : (a b : Bool) → T (a && b) → T b
-and-r true b t = t
-and-r false b t = absurd t
 
 -- the machine's value is the number, and it is within the bound
 pub record Sound (n : ℕ) (m r z : ℤ) : Type 0 where

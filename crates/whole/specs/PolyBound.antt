@@ -3,10 +3,11 @@
 --   s-sum, s-difference, s-product      of sums, differences, products; the sizes are found by computing
 --   sizes-below                         all but the highest at most n, and n below R: `Below R p`, as `lead` wants it
 -- Assumes nothing.
-use mathlib.Core.Bool.{Bool, true, false, _&&_}
+use mathlib.Core.Bool.{Bool, true, _&&_}
 use mathlib.Core.List.{List, [], _∷_}
 use Prim.Native.Nat.{ℕ, _+_, _*_}
 use lib.Dec.{T, leb}
+use lib.Ieee.Fits.{and-l, and-r}
 use lib.IntN.{ℤ, pos}
 use lib.Signed.{_<ℤ_}
 use Rattle.whole.specs.Bound.{Within, w-add, w-neg, w-mul, w-pos, w-lit}
@@ -58,13 +59,8 @@ lowerUpto n [] = true
 lowerUpto n (a ∷ []) = true
 lowerUpto n (a ∷ b ∷ l) = leb a n && lowerUpto n (b ∷ l)
 
-both : (s t : Bool) → T (s && t) → T s × T t
-both true t h = (tt, h)
-both false t h = absurd h
-
 pub sizes-below : {ns : List ℕ} {p : Poly} {R : ℤ} (n : ℕ) → pos n <ℤ R → Sizes ns p → T (lowerUpto n ns) → Below R p
 sizes-below n h empty t = none
 sizes-below n h (a also empty) t = highest
-sizes-below n h (_also_ {n = a} k (_also_ {n = b} {ns = l} j js)) t =
-    let u = both (leb a n) (lowerUpto n (b ∷ l)) t in
-    small (w-lit k (u .0)) h under sizes-below n h (j also js) (u .1)
+sizes-below n h (_also_ {n = a} k (j also js)) t =
+    small (w-lit k (and-l (leb a n) _ t)) h under sizes-below n h (j also js) (and-r (leb a n) _ t)

@@ -32,6 +32,10 @@ true-of : (b : Bool) → T b → b ≡ true
 true-of true t = refl
 true-of false t = absurd t
 
+false-of : (b : Bool) → (b ≡ true → ⊥) → b ≡ false
+false-of true f = absurd (f refl)
+false-of false f = refl
+
 pub ltZ-true : {a b : ℤ} → ltZ a b ≡ true → a <ℤ b
 ltZ-true e = ltZ-yes (yes e)
 
@@ -48,18 +52,10 @@ pub le-leZ : {a b : ℤ} → a ≤ℤ b → leZ a b ≡ true
 le-leZ {a} {b} h = true-of (leZ a b) (h .le)
 
 pub le-ltZ : {a b : ℤ} → b ≤ℤ a → ltZ a b ≡ false
-le-ltZ {a} {b} h = go (ltZ a b) (λ e. ltZ-true e)
-  where
-    go : (t : Bool) → (t ≡ true → a <ℤ b) → t ≡ false
-    go true f = absurd (clashℤ (f refl) h)
-    go false f = refl
+le-ltZ {a} {b} h = false-of (ltZ a b) (λ e. clashℤ (ltZ-true e) h)
 
 pub lt-leZ : {a b : ℤ} → b <ℤ a → leZ a b ≡ false
-lt-leZ {a} {b} h = go (leZ a b) (λ e. leZ-true e)
-  where
-    go : (t : Bool) → (t ≡ true → a ≤ℤ b) → t ≡ false
-    go true f = absurd (clashℤ h (f refl))
-    go false f = refl
+lt-leZ {a} {b} h = false-of (leZ a b) (λ e. clashℤ h (leZ-true e))
 
 pub leZ-false : {a b : ℤ} → leZ a b ≡ false → b <ℤ a
 leZ-false {a} {b} e = go (le-or-lt a b)
@@ -88,11 +84,7 @@ pub eq-eqZ : {a b : ℤ} → a ≡ b → eqZ a b ≡ true
 eq-eqZ {a} {b} e = subst (λ (z : ℤ). eqZ a z ≡ true) e (same a)
 
 pub ne-eqZ : {a b : ℤ} → (a ≡ b → ⊥) → eqZ a b ≡ false
-ne-eqZ {a} {b} n = go (eqZ a b) (λ e. n (eqZ-true e))
-  where
-    go : (t : Bool) → (t ≡ true → ⊥) → t ≡ false
-    go true f = absurd (f refl)
-    go false f = refl
+ne-eqZ {a} {b} n = false-of (eqZ a b) (λ e. n (eqZ-true e))
 
 pub eqZ-false : {a b : ℤ} → eqZ a b ≡ false → a ≡ b → ⊥
 eqZ-false f e = true≢false (sym (eq-eqZ e) ∙ f)
