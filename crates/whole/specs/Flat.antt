@@ -85,6 +85,14 @@ pub record Sound (n : ℕ) (m r z : ℤ) : Type 0 where
 op : {n : ℕ} {r z : ℤ} → r ≡ z → Within n z → T (ltb n (2 ^ 63)) → Sound n (out r) r z
 op {n} {r} {z} e w t = let f : SFits w64 r = subst (λ (x : ℤ). SFits w64 x) (sym e) (fits64 w t) in record { same = out-is f ∙ e; plain = e; fits = f; small = w }
 
+two : (s t : Bool) (f : ℤ → ℤ → ℤ) {m n k : ℕ} {a a′ x b b′ y : ℤ} → (T s → Sound m a a′ x) → (T t → Sound n b b′ y)
+    → (Within m x → Within n y → Within k (f x y)) → T (s && (t && ltb k (2 ^ 63))) → Sound k (out (f a b)) (f a b) (f x y)
+two s t f g h w u =
+    let v = and-r s _ u in
+    let p = g (and-l s _ u) in
+    let q = h (and-l t _ v) in
+    op (ap₂ f (p .same) (q .same)) (w (p .small) (q .small)) (and-r t _ v)
+
 pub sound : (β : List ℕ) (ρ : List ℤ) → All β ρ → (e : Expr) → T (okay β e) → Sound (bnd β e) (mach ρ e) (raw ρ e) (ev ρ e)
 sound β ρ h (var i) t = op refl (all-at β ρ h i) t
 sound β ρ h (con c) t = record { same = refl; plain = refl; fits = fits64 (w-self c) t; small = w-self c }
@@ -92,21 +100,9 @@ sound β ρ h (con c) t = record { same = refl; plain = refl; fits = fits64 (w-s
     w-self : (c : ℤ) → Within (natAbs c) c
     w-self c = record { within = le-refl (natAbs c) }
 sound β ρ h (lit n) t = record { same = refl; plain = refl; fits = fits64 (w-pos n) t; small = w-pos n }
-sound β ρ h (a ⊕ b) t =
-    let x = sound β ρ h a (and-l (okay β a) _ t) in
-    let u = and-r (okay β a) _ t in
-    let y = sound β ρ h b (and-l (okay β b) _ u) in
-    op (ap₂ (λ (p q : ℤ). p +ℤ q) (x .same) (y .same)) (w-add (x .small) (y .small)) (and-r (okay β b) _ u)
-sound β ρ h (a ⊖ b) t =
-    let x = sound β ρ h a (and-l (okay β a) _ t) in
-    let u = and-r (okay β a) _ t in
-    let y = sound β ρ h b (and-l (okay β b) _ u) in
-    op (ap₂ (λ (p q : ℤ). p -ℤ q) (x .same) (y .same)) (w-sub (x .small) (y .small)) (and-r (okay β b) _ u)
-sound β ρ h (a ⊗ b) t =
-    let x = sound β ρ h a (and-l (okay β a) _ t) in
-    let u = and-r (okay β a) _ t in
-    let y = sound β ρ h b (and-l (okay β b) _ u) in
-    op (ap₂ (λ (p q : ℤ). p *ℤ q) (x .same) (y .same)) (w-mul (x .small) (y .small)) (and-r (okay β b) _ u)
+sound β ρ h (a ⊕ b) t = two (okay β a) (okay β b) (λ (p q : ℤ). p +ℤ q) (sound β ρ h a) (sound β ρ h b) w-add t
+sound β ρ h (a ⊖ b) t = two (okay β a) (okay β b) (λ (p q : ℤ). p -ℤ q) (sound β ρ h a) (sound β ρ h b) w-sub t
+sound β ρ h (a ⊗ b) t = two (okay β a) (okay β b) (λ (p q : ℤ). p *ℤ q) (sound β ρ h a) (sound β ρ h b) w-mul t
 sound β ρ h (⊝ a) t =
     let x = sound β ρ h a (and-l (okay β a) _ t) in
     op (ap negℤ (x .same)) (w-neg (x .small)) (and-r (okay β a) _ t)
