@@ -6,7 +6,7 @@ use Prim.Native.Nat.{ℕ}
 use lib.IntN.{ℤ, pos, _*ℤ_, *ℤ-comm}
 use lib.Signed.{_<ℤ_}
 use Rattle.whole.specs.Ring.{at}
-use Rattle.whole.specs.Divisor.{times}
+use Rattle.whole.specs.Poly.{times}
 use Rattle.whole.specs.DivisorLaws.{same-numbers}
 use Rattle.sheet.specs.declared.Point.{Point}
 use Rattle.sheet.specs.Points.{numbers}

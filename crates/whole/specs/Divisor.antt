@@ -3,8 +3,7 @@ use mathlib.Core.Bool.{true, false}
 use mathlib.Core.List.{List, [], _∷_}
 use Prim.Native.Nat.{ℕ, zero, suc, _%_, _∣_}
 use lib.Dec.{eqb}
-use lib.IntN.{ℤ, pos, natAbs, _*ℤ_}
-use lib.Signed.{quotZ}
+use lib.IntN.{ℤ, natAbs}
 
 -- g divides a and b, and whatever divides both divides g
 pub record IsGcd (a b g : ℕ) : Type 0 where
@@ -35,12 +34,3 @@ gcd a b = steps (suc b) a b
 unfoldable pub gcdOf : List ℤ → ℕ
 gcdOf [] = 0
 gcdOf (z ∷ zs) = gcd (natAbs z) (gcdOf zs)
-
--- every number of a list times c, and divided by c
-abbrev pub times : ℤ → List ℤ → List ℤ
-times c [] = []
-times c (z ∷ zs) = (c *ℤ z) ∷ times c zs
-
-abbrev pub over : ℕ → List ℤ → List ℤ
-over c [] = []
-over c (z ∷ zs) = quotZ z (pos c) ∷ over c zs

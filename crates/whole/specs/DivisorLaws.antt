@@ -4,7 +4,8 @@
 --   gcd-unique, gcdOf-unique     there is only one
 --   gcdOf-fold                   of five numbers, folded
 --   gcdOf-times                  of a list times c it is |c| times
---   over-one, over-back          divided by it the list has divisor 1; times it the list is back
+--   gcdOf-above                  it is above 0 where a number that it divides is not 0
+--   over, over-one, over-back    divided by it the list has divisor 1; times it the list is back
 --   same-numbers                 two lists of divisor 1 that are proportional are equal
 -- Assumes nothing.
 use mathlib.Core.Path.{_≡_, refl, sym, _∙_, ap, ap₂, subst}
@@ -18,10 +19,12 @@ use lib.IntN.{ℤ, pos, negsuc, negℤ, natAbs, _*ℤ_}
 use lib.Signed.{_<ℤ_, quotZ}
 use borrow.Author.Tests.{eqb-true, eqb-false}
 use Rattle.whole.specs.Laws.{mul-neg}
-use Rattle.whole.specs.Order.{pp-dest}
+use Rattle.whole.specs.Order.{pp-nn}
+use Rattle.whole.specs.SignLaws.{nn-size}
 use Rattle.whole.specs.Cert.{mul-cancel}
 use Rattle.whole.specs.Bound.{natAbs-mul}
-use Rattle.whole.specs.Divisor.{IsGcd, DividesAll, none, _also_, IsGcdOf, steps, gcd, gcdOf, times, over}
+use Rattle.whole.specs.Poly.{times}
+use Rattle.whole.specs.Divisor.{IsGcd, DividesAll, none, _also_, IsGcdOf, steps, gcd, gcdOf}
 
 -- ---- of two
 
@@ -127,6 +130,10 @@ gcdOf-times c (z ∷ zs) =
 
 -- ---- division
 
+abbrev pub over : ℕ → List ℤ → List ℤ
+over c [] = []
+over c (z ∷ zs) = quotZ z (pos c) ∷ over c zs
+
 quot-back : (z : ℤ) (c : ℕ) → c ∣ natAbs z → pos c *ℤ quotZ z (pos c) ≡ z
 quot-back (pos n) c d = ap pos (mul-comm c (n / c) ∙ div-mul-cancel c {m = n} d)
 quot-back (negsuc n) c d = mul-neg (pos c) (pos (suc n / c)) ∙ ap (λ (x : ℕ). negℤ (pos x)) (mul-comm c (suc n / c) ∙ div-mul-cancel c {m = suc n} d)
@@ -177,8 +184,5 @@ same-numbers w v xs ys hw hv gx gy e = (same, times-inj v xs ys hv (e ∙ ap (λ
         sym (mul-one (natAbs v)) ∙ ap (λ (g : ℕ). natAbs v * g) (sym gx) ∙ sym (gcdOf-times v xs) ∙ ap gcdOf e
         ∙ gcdOf-times w ys ∙ ap (λ (g : ℕ). natAbs w * g) gy ∙ mul-one (natAbs w)
 
-    is-pos : (z : ℤ) → pos 0 <ℤ z → z ≡ pos (natAbs z)
-    is-pos z h = let d = pp-dest h in d .1 ∙ ap (λ (x : ℤ). pos (natAbs x)) (sym (d .1))
-
     same : w ≡ v
-    same = is-pos w hw ∙ ap pos (sym sizes) ∙ sym (is-pos v hv)
+    same = nn-size (pp-nn hw) ∙ ap pos (sym sizes) ∙ sym (nn-size (pp-nn hv))
