@@ -14,6 +14,7 @@ use Rattle.whole.specs.Laws.{one-mul}
 use Rattle.whole.specs.Order.{le-cert, le-nn, nn-add, nn-mul, nn-pos, pp-nn, ≤-trans, <-≤-trans, ≤-of}
 use Rattle.whole.specs.Sign.{sgn}
 use Rattle.whole.specs.SignLaws.{Signs, signs, minus, nought, plus, sgn-abs, sgn-mul-self}
+use Rattle.whole.specs.Linear.{lt-one}
 use Rattle.whole.specs.Bound.{Within, w-upper, w-lower}
 use Rattle.whole.specs.Cert.{z-eq, z-add, nn-eq, eq-cert}
 use Rattle.sheet.specs.declared.Point.{Point}
@@ -28,7 +29,7 @@ use Rattle.sheet.specs.EndsLaws.{Way, far-frame, proper-way, reverse-way}
 use Rattle.cut.specs.Bounds.{endsNeed}
 use Rattle.cut.specs.Cut.{InSquare}
 use Rattle.cut.specs.Same.{spotAt, divided-spot}
-use Rattle.cut.specs.Square.{lt-one, square-by, Inner, inner-small}
+use Rattle.cut.specs.Square.{square-by, Inner, inner-small}
 use Rattle.cut.specs.Farthest.{Farthest, farthest-by, farthest-move}
 
 -- ---- a frame point is in the square: m R + n is within w R

@@ -5,11 +5,9 @@
 --   segment-small            a segment is as far inside as its ends
 --   length-pq, small-d       the direction of a proper pair
 --   unit, out-within, Turned   the sides' ways out; m follows n
---   lt-one                   a < b leaves b - a - 1 at 0 or more
 use mathlib.Core.Path.{_≡_, refl, sym, subst}
 use mathlib.Core.List.{List, [], _∷_}
 use Prim.Native.Nat.{ℕ}
-use native.Mathlib.Omega.{arith}
 use lib.IntN.{ℤ-discrete, ℤ, pos, negsuc, negℤ, _+ℤ_, _-ℤ_, _*ℤ_}
 use lib.Signed.{_≤ℤ_, _<ℤ_, ≤ℤ-refl, clashℤ}
 use Rattle.whole.specs.Ring.{Expr, var, con, _⊕_, _⊖_, _⊗_, ring}
@@ -17,7 +15,7 @@ use Rattle.whole.specs.Reify.{reify, reading, solve, val-pos, val-negsuc}
 use Rattle.whole.specs.Laws.{eq-of-sub}
 use Rattle.whole.specs.Order.{le-cert, lt-cert, le-nn, lt-pp, nn-add, nn-mul, nn-pos, nn-sq, pp-add, pp-mul, pp-nn, ≤-trans, ≤-<-trans}
 use Rattle.whole.specs.SignLaws.{Signs, signs, minus, nought, plus, neg-pp}
-use Rattle.whole.specs.Linear.{diffs, split}
+use Rattle.whole.specs.Linear.{lt-one}
 use Rattle.whole.specs.Bound.{Within, w-sub, w-pos, w-negsuc, w-lit, w-upper, w-lower}
 use Rattle.whole.specs.Cert.{nn-eq, le-by}
 use Rattle.sheet.specs.Figure.{Vec, _⇀_, Side, left, bottom, right, top, outX, outY, segment}
@@ -25,9 +23,6 @@ use Rattle.sheet.specs.RefusalLaws.{Small, Proper}
 use Rattle.cut.specs.Place.{Spot, fixed}
 use Rattle.cut.specs.Cut.{OnLine, Upto, out, InSquare, OnSide, On, on-segment}
 use Rattle.cut.specs.Line.{size²}
-
-pub lt-one : {a b : ℤ} → a <ℤ b → pos 0 ≤ℤ (b -ℤ a -ℤ pos 1)
-lt-one {a} {b} h = split a λ p n ea. split b λ q m eb. let k = simp (diffs, ea, eb) at h in simp (diffs, ea, eb) (omega arith)
 
 -- ---- by coordinates
 

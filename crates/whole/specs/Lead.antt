@@ -4,19 +4,18 @@
 --   lead-two         of degree two at the most, by the sizes that the two lower coefficients have
 --   two-zero         u R + v = 0 with v within n below R makes u and v 0
 -- Assumes nothing.
-use mathlib.Core.Path.{_≡_, sym, _∙_, ap, subst}
+use mathlib.Core.Path.{_≡_, sym, _∙_, ap}
 use mathlib.Core.List.{[], _∷_}
 use Prim.Native.Nat.{ℕ}
-use native.Mathlib.Omega.{arith}
-use lib.IntN.{ℤ, pos, negℤ, _+ℤ_, _*ℤ_, +ℤ-idl, zero-*ℤ, negℤ-negℤ}
-use lib.Signed.{_≤ℤ_, _<ℤ_}
+use lib.IntN.{ℤ, pos, negℤ, _+ℤ_, _*ℤ_, +ℤ-idl, zero-*ℤ}
+use lib.Signed.{_<ℤ_}
 use Rattle.whole.specs.Ring.{var, _⊕_, _⊗_, ⊝_, ring}
 use Rattle.whole.specs.Reify.{reify, reading, solve, val-pos, val-negsuc}
-use Rattle.whole.specs.Order.{lt-cert, lt-pp, le-nn, nn-mul, pp-add, pp-nn, pp-dest, le-intro, <-neg, ≤-<-trans}
+use Rattle.whole.specs.Order.{lt-cert, lt-pp, nn-pos, nn-mul, pp-add, pp-nn, <-neg, ≤-<-trans, <-≤-trans}
 use Rattle.whole.specs.Sign.{sgn}
 use Rattle.whole.specs.SignLaws.{sgn-pos, sgn-neg-eq, sgn-zero, zero-of-sgn, Signs, signs, minus, nought, plus, neg-pp}
-use Rattle.whole.specs.Linear.{diffs, split}
-use Rattle.whole.specs.Bound.{Within, w-upper, w-neg}
+use Rattle.whole.specs.Linear.{lt-one}
+use Rattle.whole.specs.Bound.{Within, w-upper, w-lower}
 use Rattle.whole.specs.Poly.{Poly, value, first, leading}
 use Rattle.whole.specs.PolyLaws.{first-zero}
 
@@ -37,33 +36,23 @@ pub data Below (R : ℤ) : Poly → Type 0 where
 infixr 5 _under_
 -- ---- one step: b R + c has the sign of b, or of c where b is 0
 
-one-le : {b : ℤ} → pos 0 <ℤ b → pos 1 ≤ℤ b
-one-le h = let w = pp-dest h in le-intro (w .0) (w .1 ∙ ap pos (omega arith))
-
 -- b ≥ 1 and -R < c: b R + c = (b - 1) R + (c + R)
 positive : (b c R : ℤ) → pos 0 <ℤ R → pos 0 <ℤ b → negℤ R <ℤ c → pos 0 <ℤ (b *ℤ R +ℤ c)
 positive b c R hR hb hc =
-    lt-cert _ (pp-add (lt-pp hc) (nn-mul (le-nn (one-le hb)) (pp-nn hR)))
+    lt-cert _ (pp-add (lt-pp hc) (nn-mul (lt-one hb) (pp-nn hR)))
     (reify (b ∷ c ∷ R ∷ []) (λ ρ v. simp (reading, val-pos ρ, val-negsuc ρ, v 0, v 1, v 2) (solve _ _ _ tt)))
-
-middle : (c R : ℤ) → negℤ R <ℤ c → c <ℤ R → pos 0 <ℤ R
-middle c R l u =
-    split c λ p n ec. split R λ q m eR.
-    let l′ = simp (diffs, ec, eR) at l in
-    let u′ = simp (diffs, ec, eR) at u in
-    simp (diffs, eR) (omega arith)
 
 upper : {c R : ℤ} → Small R c → c <ℤ R
 upper s = ≤-<-trans (w-upper (s .within)) (s .below)
 
 lower : {c R : ℤ} → Small R c → negℤ R <ℤ c
-lower {c} {R} s = subst (λ (x : ℤ). negℤ R <ℤ x) (negℤ-negℤ c) (<-neg (≤-<-trans (w-upper (w-neg (s .within))) (s .below)))
+lower s = <-≤-trans (<-neg (s .below)) (w-lower (s .within))
 
 pub lead-step : (b c R : ℤ) → Small R c → sgn (b *ℤ R +ℤ c) ≡ first (sgn b) (sgn c)
 lead-step b c R s = go (signs b)
   where
     above : pos 0 <ℤ R
-    above = middle c R (lower s) (upper s)
+    above = ≤-<-trans (nn-pos (s .size)) (s .below)
 
     go : Signs b → sgn (b *ℤ R +ℤ c) ≡ first (sgn b) (sgn c)
     go (plus h e) = sgn-pos (positive b c R above h (lower s)) ∙ ap (λ (s : ℤ). first s (sgn c)) (sym e)

@@ -1,6 +1,7 @@
 -- Linear goals over ℤ, by `omega`. To cite:
 --   split   names p and n with z = p - n
 --   diffs   makes each side of an order or equation one difference of naturals, and the order one of ℕ
+--   lt-one  a < b leaves b - a - 1 at 0 or more
 -- So: `split a λ p n ea. .. let h′ = simp (diffs, ea, ..) at h in .. simp (diffs, ea, ..) (omega arith)`.
 -- Assumes nothing.
 use mathlib.Core.Path.{_≡_, sym, _∙_, ap}
@@ -82,3 +83,6 @@ dif-lt p n q m = (to, from)
     from h = lt-intro (q + n - suc (p + m)) (eq-from q m (p + suc (q + n - suc (p + m))) n (omega arith) ∙ sym (plus-pos p n (suc (q + n - suc (p + m)))))
 
 pub ruleset diffs = (dif-add, dif-neg, dif-mul, dif-pos, dif-negsuc, dif-le, dif-lt, dif-eq)
+
+pub lt-one : {a b : ℤ} → a <ℤ b → pos 0 ≤ℤ (b -ℤ a -ℤ pos 1)
+lt-one {a} {b} h = split a λ p n ea. split b λ q m eb. let k = simp (diffs, ea, eb) at h in simp (diffs, ea, eb) (omega arith)
