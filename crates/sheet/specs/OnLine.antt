@@ -13,7 +13,7 @@ use lib.Signed.{_<ℤ_}
 use Rattle.whole.specs.Laws.{mul-assoc}
 use Rattle.whole.specs.Ring.{var, lit, _⊕_, _⊖_, _⊗_, ⊝_, ring}
 use Rattle.whole.specs.Reify.{reify, reading, solve, val-pos}
-use Rattle.whole.specs.Cert.{z-eq, z-add, eq-cert, mul-cancel}
+use Rattle.whole.specs.Cert.{z-eq, z-add, eq-cert, zero-cancel}
 use Rattle.whole.specs.Sign.{sgn}
 use Rattle.whole.specs.SignLaws.{sgn-zero, sgn-abs, sgn-mul-self, size-above}
 use Rattle.whole.specs.Poly.{first}
@@ -59,17 +59,14 @@ on-line-divided {p} {d} {e} above h =
     let g = pos (divisor e) in
     record {
       level =
-          zero-out (divisor-above e above)
+          zero-cancel g (divisor-above e above)
           (times-two g (d .x) (d .y) (f .my) (f .mx) ∙ sym (λ i. d .x *ℤ b .my i -ℤ d .y *ℤ b .mx i) ∙ h .level);
       even =
-          zero-out (divisor-above e above)
+          zero-cancel g (divisor-above e above)
           (times-three g (d .x) (d .y) (f .ny) (f .nx) (f .w) (moment p d)
           ∙ sym (λ i. d .x *ℤ b .ny i -ℤ d .y *ℤ b .nx i -ℤ b .w i *ℤ moment p d) ∙ h .even);
     }
   where
-    zero-out : {g z : ℤ} → pos 0 <ℤ g → g *ℤ z ≡ pos 0 → z ≡ pos 0
-    zero-out {g} a e = mul-cancel g a (e ∙ sym (*ℤ-zero g))
-
     times-two : (g a b x y : ℤ) → g *ℤ (a *ℤ x -ℤ b *ℤ y) ≡ a *ℤ (g *ℤ x) -ℤ b *ℤ (g *ℤ y)
     times-two g a b x y = reify (g ∷ a ∷ b ∷ x ∷ y ∷ []) (λ ρ v. simp (reading, v 0, v 1, v 2, v 3, v 4) (solve _ _ _ tt))
 
@@ -159,9 +156,8 @@ parallel d f u n h k = go (ℤ-discrete (d .x) (pos 0))
   where
     out : (a z : ℤ) → (a ≡ pos 0 → ⊥) → a *ℤ z ≡ pos 0 → z ≡ pos 0
     out a z n e =
-        mul-cancel (size a) (size-above n)
-        (ap (λ (w : ℤ). w *ℤ z) (sym (sgn-mul-self a)) ∙ mul-assoc (sgn a) a z ∙ ap (λ (w : ℤ). sgn a *ℤ w) e
-        ∙ *ℤ-zero (sgn a) ∙ sym (*ℤ-zero (size a)))
+        zero-cancel (size a) (size-above n)
+        (ap (λ (w : ℤ). w *ℤ z) (sym (sgn-mul-self a)) ∙ mul-assoc (sgn a) a z ∙ ap (λ (w : ℤ). sgn a *ℤ w) e ∙ *ℤ-zero (sgn a))
 
     by-x : (dx dy fx fy ux uy : ℤ) →
         dx *ℤ (fx *ℤ uy -ℤ fy *ℤ ux) -ℤ pos 0 ≡ fx *ℤ (dx *ℤ uy -ℤ dy *ℤ ux -ℤ pos 0) +ℤ negℤ ux *ℤ (dx *ℤ fy -ℤ dy *ℤ fx -ℤ pos 0)

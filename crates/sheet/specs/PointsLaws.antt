@@ -1,7 +1,6 @@
 -- Points: the common divisor going out, and what the Boolean definitions say. To cite:
 --   Times, divided-back      each number of p is the divisor times that of `divided p`
 --   divides-w, divisor-above, divided-above, divided-one      the divisor is above 0; w stays above 0; the divisor is then 1
---   divided-same             a divisor of 1 changes nothing
 --   same-point               two points of the same five numbers
 --   Standard, Narrow, OnEdge, InSquare, Frame, APoint    the facts, in ℤ; reduced: the divisor of a point is 1
 --   narrow-is, standard-is, edge-is, in-square-is, frame-is, point-is
@@ -16,13 +15,11 @@ use mathlib.Core.List.{List, [], _∷_}
 use Prim.Native.Nat.{ℕ, _∣_, _<_}
 use native.Mathlib.Omega.{arith}
 use lib.Dec.{eqb, leb→le, lt→ltb}
-use lib.IntN.{ℤ, pos, negℤ, natAbs, _-ℤ_, _*ℤ_, *ℤ-comm, *ℤ-zero}
+use lib.IntN.{ℤ, pos, negℤ, natAbs, _*ℤ_, *ℤ-comm}
 use lib.Signed.{_≤ℤ_, _<ℤ_, ltZ}
-use Rattle.whole.specs.Laws.{one-mul}
 use Rattle.whole.specs.Ring.{at}
-use Rattle.whole.specs.Reify.{reify, reading, solve}
-use Rattle.whole.specs.Order.{nn-pos, pp-dest, pp-nn, lt-pp, ≤-trans, ≤-<-trans, <-≤-trans, ≤-of, ≤-neg, <-≤}
-use Rattle.whole.specs.Cert.{pp-cancel, mul-cancel, lt-by}
+use Rattle.whole.specs.Order.{nn-pos, pp-dest, ≤-trans, ≤-<-trans, <-≤-trans, ≤-of, ≤-neg, <-≤}
+use Rattle.whole.specs.Cert.{pp-cancel, mul-cancel, <-cancel, zero-cancel}
 use Rattle.whole.specs.Sign.{sgn}
 use Rattle.whole.specs.SignLaws.{sgn-mul-pos}
 use Rattle.whole.specs.Bound.{Within, w-is, w-intro, w-upper, w-lower, w-pos, w-lit, w-quot, natAbs-mul}
@@ -81,15 +78,6 @@ module _ (p : Point) (h : pos 0 <ℤ p .w) where
 -- "Two points are equal exactly when their five numbers are."
 pub same-point : (p q : Point) → p .mx ≡ q .mx → p .nx ≡ q .nx → p .my ≡ q .my → p .ny ≡ q .ny → p .w ≡ q .w → p ≡ q
 same-point p q a b c d e = λ i. record { mx = a i; nx = b i; my = c i; ny = d i; w = e i }
-
-pub divided-same : (p : Point) → divisor p ≡ 1 → divided p ≡ p
-divided-same p e = same-point (divided p) p (same (b .mx)) (same (b .nx)) (same (b .my)) (same (b .ny)) (same (b .w))
-  where
-    b : Times (pos (divisor p)) p (divided p)
-    b = divided-back p
-
-    same : {x y : ℤ} → y ≡ pos (divisor p) *ℤ x → x ≡ y
-    same {x} {y} f = sym (f ∙ ap (λ (g : ℕ). pos g *ℤ x) e ∙ one-mul x)
 
 -- ---- the facts behind the definitions
 
@@ -255,20 +243,14 @@ module _ (g : ℕ) (h : pos 0 <ℤ pos g) where
   sgn-times m′ e = ap sgn (e ∙ *ℤ-comm (pos g) m′) ∙ sgn-mul-pos m′ (pos g) h
 
   zero-times : {n n′ : ℤ} → n ≡ pos g *ℤ n′ → n ≡ pos 0 → n′ ≡ pos 0
-  zero-times e z = mul-cancel (pos g) h (sym e ∙ z ∙ sym (*ℤ-zero (pos g)))
+  zero-times e z = zero-cancel (pos g) h (sym e ∙ z)
 
   full-times : {m w : ℤ} (m′ w′ : ℤ) → m ≡ pos g *ℤ m′ → w ≡ pos g *ℤ w′ → size m ≡ w → size m′ ≡ w′
   full-times m′ w′ em ew e = mul-cancel (pos g) h (sym (size-times m′ em) ∙ e ∙ ew)
 
-  <-cancel : (a b : ℤ) → (pos g *ℤ a) <ℤ (pos g *ℤ b) → a <ℤ b
-  <-cancel a b l = lt-by (pos g) (pp-nn h) _ (lt-pp l) (distr (pos g))
-    where
-      distr : (c : ℤ) → c *ℤ (b -ℤ a) ≡ c *ℤ b -ℤ c *ℤ a
-      distr c = reify (a ∷ b ∷ c ∷ []) (λ ρ v. simp (reading, v 0, v 1, v 2) (solve _ _ _ tt))
-
   module _ {m n w m′ n′ w′ : ℤ} (em : m ≡ pos g *ℤ m′) (en : n ≡ pos g *ℤ n′) (ew : w ≡ pos g *ℤ w′) where
     square-times : InSquare m n w → InSquare m′ n′ w′
-    square-times (inner l) = inner (<-cancel (size m′) w′ (≤-<-trans (≤-of (sym (size-times m′ em))) (<-≤-trans l (≤-of ew))))
+    square-times (inner l) = inner (<-cancel (pos g) h (≤-<-trans (≤-of (sym (size-times m′ em))) (<-≤-trans l (≤-of ew))))
     square-times (on e z) = on (full-times m′ w′ em ew e) (zero-times en z)
     square-times (beside e z) = beside (full-times m′ w′ em ew e) (sym (sgn-times n′ en) ∙ z ∙ ap negℤ (sgn-times m′ em))
 

@@ -3,7 +3,7 @@
 --   nn-eq                the same, as something that is 0 or more
 --   le-by, lt-by, eq-by  m (b - a) is the sum c: the order or equation after m is cancelled
 --   eq-cert              a - b is the sum c, which is 0
---   nn-cancel, pp-cancel, mul-cancel   a positive factor goes out
+--   nn-cancel, pp-cancel, mul-cancel, <-cancel, zero-cancel   a positive factor goes out
 -- The factors are worked out on paper; what is left is one identity for `reify`. Assumes nothing.
 use mathlib.Core.Path.{_≡_, refl, sym, _∙_, ap, ap₂, subst}
 use mathlib.Core.Logic.{_⊎_, inl, inr}
@@ -12,7 +12,7 @@ use lib.IntN.{ℤ, pos, negℤ, _+ℤ_, _-ℤ_, _*ℤ_, *ℤ-zero, +ℤ-invr}
 use lib.Signed.{_≤ℤ_, _<ℤ_, ≤ℤ-refl, clashℤ}
 use Rattle.whole.specs.Laws.{eq-of-sub}
 use Rattle.whole.specs.Reify.{reify, reading, solve, val-pos}
-use Rattle.whole.specs.Order.{le-cert, lt-cert, le-nn, lt-pp, nn-mul, pp-mul, le-or-lt, ≤-antisym}
+use Rattle.whole.specs.Order.{le-cert, lt-cert, le-nn, lt-pp, nn-mul, pp-mul, pp-nn, le-or-lt, ≤-antisym}
 
 -- an equation times m: 0 either way
 pub z-eq : {l r : ℤ} (m : ℤ) → l ≡ r → m *ℤ (l -ℤ r) ≡ pos 0
@@ -64,7 +64,10 @@ mul-cancel {a} {b} m hm e =
     eq-by m hm _ (z-eq (pos 1) e)
     (reify (m ∷ a ∷ b ∷ []) (λ ρ v. simp (reading, v 0, v 1, v 2, val-pos ρ) (solve _ _ _ tt)))
 
-pub ≤-cancel : {a b : ℤ} (m : ℤ) → pos 0 <ℤ m → (m *ℤ a) ≤ℤ (m *ℤ b) → a ≤ℤ b
-≤-cancel {a} {b} m hm h =
-    le-by m hm _ (le-nn h)
+pub zero-cancel : {z : ℤ} (m : ℤ) → pos 0 <ℤ m → m *ℤ z ≡ pos 0 → z ≡ pos 0
+zero-cancel m hm e = mul-cancel m hm (e ∙ sym (*ℤ-zero m))
+
+pub <-cancel : {a b : ℤ} (m : ℤ) → pos 0 <ℤ m → (m *ℤ a) <ℤ (m *ℤ b) → a <ℤ b
+<-cancel {a} {b} m hm h =
+    lt-by m (pp-nn hm) _ (lt-pp h)
     (reify (m ∷ a ∷ b ∷ []) (λ ρ v. simp (reading, v 0, v 1, v 2) (solve _ _ _ tt)))
