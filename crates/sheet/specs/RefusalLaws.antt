@@ -1,23 +1,22 @@
 -- What an accepted object is. To cite:
 --   Small, Proper            both coordinates at most n; two given points within 2,000 that differ
 --   Taken, accepted-taken    an accepted object by its kind: what figure it is, and what holds of its numbers
---   pair-proper, proper-pair   refusal 0 of a pair, and back;  side-proper  refusal 0 of a side;  sideNumber, side-of  the side of a number
+--   pair-proper, side-proper   refusal 0 of a pair, of a side;  sideNumber, side-of  the side of a number
 --   kind-segment, kind-ray, kind-line, kind-side   the figure by the kind
---   pair-within, side-within, object-within        a refusal is 0 to 4
 -- Assumes nothing.
 use mathlib.Core.Path.{_≡_, refl, _∙_, ap, subst}
-use mathlib.Core.Bool.{Bool, true, false, cond, not, _&&_, _||_}
-use Prim.Native.Nat.{ℕ, zero, suc, _+_, _≤_}
+use mathlib.Core.Bool.{cond}
+use Prim.Native.Nat.{ℕ, zero, suc, _+_}
 use native.Mathlib.Omega.{arith}
 use lib.Dec.{leb→le}
-use lib.IntN.{ℤ, pos, negsuc, _+ℤ_}
+use lib.IntN.{ℤ, pos, _+ℤ_}
 use lib.Signed.{_≤ℤ_}
 use Rattle.whole.specs.Order.{le-dest}
-use Rattle.whole.specs.Bound.{Within, w-intro, w-upper, w-lower}
+use Rattle.whole.specs.Bound.{Within, w-intro}
 use Rattle.whole.specs.Tests.{eqZ}
 use Rattle.sheet.specs.declared.Object.{Object}
 use Rattle.sheet.specs.Figure.{Vec, Side, left, bottom, right, top, segment, ray, line, side, sideOf, first, second, figure}
-use Rattle.sheet.specs.Refusal.{outside, beyond, pairRefusal, sideRefusal, objectRefusal, Accepted}
+use Rattle.sheet.specs.Refusal.{pairRefusal, sideRefusal, objectRefusal, Accepted}
 use Rattle.sheet.specs.Flags.{flags}
 
 -- ---- two given points
@@ -42,15 +41,6 @@ pair-proper p q h =
       small-q = record { in-x = w-intro (f .0 .0 .1 .0) (f .0 .0 .1 .1); in-y = w-intro (f .0 .1 .0) (f .0 .1 .1) };
       differ = f .1 .0;
     }
-
-pub proper-pair : (p q : Vec) → Proper p q → pairRefusal (p .x) (p .y) (q .x) (q .y) ≡ pos 0
-unfolding pairRefusal
-proper-pair p q h =
-    simp flags
-    ((((two (h .small-p .in-x), two (h .small-p .in-y)), two (h .small-q .in-x)), two (h .small-q .in-y)), (h .differ, refl))
-  where
-    two : {z : ℤ} → Within 2000 z → (negsuc 1999 ≤ℤ z) × (z ≤ℤ pos 2000)
-    two b = (w-lower b, w-upper b)
 
 -- ---- numbers from 1 to 4
 
@@ -148,30 +138,3 @@ accepted-taken {o} a = let f = simp flags at (a .accepted) in go (one-to-four (o
     go (is-4 e) r =
         let s = side-proper (o .px) (o .py) (o .qx) (o .qy) (simp e at r) in
         a-side e s (kind-side o e ∙ ap (λ (n : ℤ). side (sideOf n)) (s .number) ∙ ap side (side-of (s .which)))
-
--- ---- a refusal is a number from 0 to 4
-
-two-ways : {k : ℕ} (t : Bool) {n m : ℤ} → Within k n → Within k m → Within k (cond t n m)
-two-ways true h l = h
-two-ways false h l = l
-
-lit : (n : ℕ) → n ≤ 4 → Within 4 (pos n)
-lit n h = record { within = h }
-
-pub pair-within : (px py qx qy : ℤ) → Within 4 (pairRefusal px py qx qy)
-unfolding pairRefusal
-pair-within px py qx qy =
-    two-ways (beyond px || beyond py || beyond qx || beyond qy) (lit 2 (omega arith))
-    (two-ways (eqZ px qx && eqZ py qy) (lit 3 (omega arith)) (lit 0 (omega arith)))
-
-pub side-within : (n a b c : ℤ) → Within 4 (sideRefusal n a b c)
-unfolding sideRefusal
-side-within n a b c =
-    two-ways (outside (pos 1) (pos 4) n || not (eqZ a (pos 0)) || not (eqZ b (pos 0)) || not (eqZ c (pos 0)))
-    (lit 4 (omega arith)) (lit 0 (omega arith))
-
-pub object-within : (o : Object) → Within 4 (objectRefusal o)
-unfolding objectRefusal
-object-within o =
-    two-ways (outside (pos 1) (pos 4) (o .kind)) (lit 1 (omega arith))
-    (two-ways (eqZ (o .kind) (pos 4)) (side-within (o .px) (o .py) (o .qx) (o .qy)) (pair-within (o .px) (o .py) (o .qx) (o .qy)))
