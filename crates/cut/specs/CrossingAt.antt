@@ -14,7 +14,7 @@ use Rattle.sheet.specs.declared.Object.{Object}
 use Rattle.sheet.specs.declared.Point.{Point}
 use Rattle.sheet.specs.Figure.{Vec, _⇀_, Side, Figure, segment, ray, line, side, figure}
 use Rattle.sheet.specs.Refusal.{Accepted}
-use Rattle.sheet.specs.RefusalLaws.{Proper}
+use Rattle.sheet.specs.RefusalLaws.{Proper, Drawn, draw-segment, draw-ray, draw-line, draw-side, accepted-drawn}
 use Rattle.sheet.specs.PointsLaws.{APoint, point-is}
 use Rattle.sheet.specs.EndsLaws.{proper-way}
 use Rattle.sheet.specs.Crossing.{Meeting, none, point, many, Piece, segmentPiece, rayPiece, linePiece, dot, pieces, withSide, withPiece, meeting, crossingOf}
@@ -25,7 +25,6 @@ use Rattle.cut.specs.Claims.{Answered, SharedPoint}
 use Rattle.cut.specs.Same.{same-sym, same-trans, same-place, same-spot, placeOf, place-spot, spotAt, put-spot, on-same, of-segment, of-ray, of-line}
 use Rattle.cut.specs.Line.{size², online-p, online-q}
 use Rattle.cut.specs.Square.{larger-square, segment-small, length-pq, small-d}
-use Rattle.cut.specs.EndsAt.{Drawn, draw-segment, draw-ray, draw-line, draw-side, accepted-drawn}
 use Rattle.cut.specs.Pieces.{after-free, after-till, before-free, before-till, of-after, of-before, Part, marked-free, marked-till, marks-free, marks-till, Fit}
 use Rattle.cut.specs.Says.{Both, both-swap, both-map, Says, says-none, says-point, says-many, says-map}
 use Rattle.cut.specs.Skew.{pieces-says}

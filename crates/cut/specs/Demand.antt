@@ -7,6 +7,7 @@ use lib.Signed.{_≤ℤ_, ltZ-yes, leZ-yes}
 use Rattle.whole.specs.Order.{≤-trans, <-≤-trans}
 use Rattle.sheet.specs.declared.Object.{Object}
 use Rattle.sheet.specs.Refusal.{Accepted}
+use Rattle.sheet.specs.RefusalLaws.{accepted-drawn}
 use Rattle.sheet.specs.PointsLaws.{point-is, narrow-is, point-sizes}
 use Rattle.sheet.specs.Ends.{firstEnd, lastEnd}
 use Rattle.sheet.specs.Signs.{sideSign}
@@ -16,7 +17,7 @@ use Rattle.cut.specs.Place.{spot}
 use Rattle.cut.specs.Cut.{MoreShared, NothingShared}
 use Rattle.cut.specs.Claims.{EndsHold, CrossingHolds, Holds, DemandAt}
 use Rattle.cut.specs.Same.{put-spot, on-same, upto-same, same-upto-left}
-use Rattle.cut.specs.EndsAt.{accepted-drawn, ends-at}
+use Rattle.cut.specs.EndsAt.{ends-at}
 use Rattle.cut.specs.OrderAt.{order-at}
 use Rattle.cut.specs.TurnAt.{turn-at, side-at}
 use Rattle.cut.specs.SameNumbers.{same-numbers-at}

@@ -1,5 +1,4 @@
 -- The ends of a figure at R: both are on the cut piece, and every place of it lies between them. To cite:
---   Drawn, accepted-drawn   a figure that a sheet takes: that of an accepted object
 --   FromTo, ends-at         the law, for every R of 8,000,000 or more
 --   begins-is, cornerSpot, first-corner, last-corner   a side's corners by its way out; they are on it
 use mathlib.Core.Path.{_≡_, refl, sym, subst}
@@ -10,11 +9,9 @@ use Rattle.whole.specs.Reify.{reify, reading, solve, val-pos, val-negsuc}
 use Rattle.whole.specs.Order.{le-cert, le-nn, nn-add, nn-mul, nn-pos, pp-pos, ≤-trans}
 use Rattle.whole.specs.Bound.{Within, w-pos, w-negsuc, w-upper, w-lower}
 use Rattle.whole.specs.Cert.{z-eq, nn-eq, eq-cert}
-use Rattle.sheet.specs.declared.Object.{Object}
 use Rattle.sheet.specs.declared.Point.{Point}
-use Rattle.sheet.specs.Figure.{Vec, _⇀_, Side, left, bottom, right, top, outX, outY, Figure, segment, ray, line, side, figure}
-use Rattle.sheet.specs.Refusal.{Accepted}
-use Rattle.sheet.specs.RefusalLaws.{Proper, Taken, a-segment, a-ray, a-line, a-side, accepted-taken}
+use Rattle.sheet.specs.Figure.{_⇀_, Side, left, bottom, right, top, outX, outY, Figure, side}
+use Rattle.sheet.specs.RefusalLaws.{Drawn, draw-segment, draw-ray, draw-line, draw-side}
 use Rattle.sheet.specs.Ends.{corner, begins, nextSide, firstOf, lastOf}
 use Rattle.cut.specs.Bounds.{endsNeed}
 use Rattle.cut.specs.Place.{Spot, fixed}
@@ -25,23 +22,6 @@ use Rattle.cut.specs.Line.{upto-refl, online-p, online-q, upto-pq, onlin
 use Rattle.cut.specs.Square.{square-by, near, length-pq, unit, Turned}
 use Rattle.cut.specs.Farthest.{farthest-last}
 use Rattle.cut.specs.Far.{ahead, behind, inner-p}
-
--- ---- figures of accepted objects
-
-pub data Drawn : Figure → Type 0 where
-  draw-segment : {p q : Vec} → Proper p q → Drawn (segment p q)
-  draw-line : {p q : Vec} → Proper p q → Drawn (line p q)
-  draw-ray : {p q : Vec} → Proper p q → Drawn (ray p q)
-  draw-side : {n : Side} → Drawn (side n)
-
-pub accepted-drawn : {o : Object} → Accepted o → Drawn (figure o)
-accepted-drawn {o} a = go (accepted-taken a)
-  where
-    go : Taken o → Drawn (figure o)
-    go (a-segment k e h) = subst Drawn (sym e) (draw-segment h)
-    go (a-ray k e h) = subst Drawn (sym e) (draw-ray h)
-    go (a-line k e h) = subst Drawn (sym e) (draw-line h)
-    go (a-side k s e) = subst Drawn (sym e) draw-side
 
 -- ---- corners
 

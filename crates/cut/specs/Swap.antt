@@ -9,7 +9,7 @@ use Rattle.sheet.specs.declared.Object.{Object}
 use Rattle.sheet.specs.declared.Point.{Point}
 use Rattle.sheet.specs.Figure.{Vec, _⇀_, Figure}
 use Rattle.sheet.specs.Refusal.{Accepted}
-use Rattle.sheet.specs.RefusalLaws.{Small, Proper}
+use Rattle.sheet.specs.RefusalLaws.{Small, Proper, Drawn, draw-segment, draw-ray, draw-line, draw-side, accepted-drawn}
 use Rattle.sheet.specs.PointsLaws.{APoint, point-is}
 use Rattle.sheet.specs.Crossing.{Meeting, point, many, crossingOf}
 use Rattle.cut.specs.Bounds.{smallBound}
@@ -18,7 +18,6 @@ use Rattle.cut.specs.Cut.{InSquare, On, on-segment, on-ray, on-line, Sha
 use Rattle.cut.specs.Claims.{Answered}
 use Rattle.cut.specs.Line.{upto-refl, online-p, online-q, upto-pq}
 use Rattle.cut.specs.Square.{near}
-use Rattle.cut.specs.EndsAt.{Drawn, draw-segment, draw-ray, draw-line, draw-side, accepted-drawn}
 use Rattle.cut.specs.Says.{Both, Says, says-many}
 use Rattle.cut.specs.SidesMeet.{same-says}
 use Rattle.cut.specs.SameNumbers.{same-numbers-at}

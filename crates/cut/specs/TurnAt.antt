@@ -22,7 +22,7 @@ use Rattle.whole.specs.PolyBound.{Sizes, empty, _also_, plus, mult, s-sum, s-di
 use Rattle.sheet.specs.declared.Point.{Point}
 use Rattle.sheet.specs.Figure.{Vec, Side, left, bottom, right, top, Figure}
 use Rattle.sheet.specs.Points.{X, Y, W, given}
-use Rattle.sheet.specs.RefusalLaws.{Small, Proper}
+use Rattle.sheet.specs.RefusalLaws.{Small, Proper, Drawn, draw-segment, draw-ray, draw-line, draw-side}
 use Rattle.sheet.specs.PointsLaws.{Narrow, APoint, point-sizes}
 use Rattle.sheet.specs.Ends.{begins, nextSide}
 use Rattle.sheet.specs.Signs.{turnPoly, turn, sideOfFigure}
@@ -30,7 +30,6 @@ use Rattle.cut.specs.Bounds.{sideNeed, turnNeed}
 use Rattle.cut.specs.Place.{Place, SamePlace, put, at}
 use Rattle.cut.specs.Ordinary.{difference, determinant, signOf, beginAt, tail, tip}
 use Rattle.cut.specs.Coordinate.{value-two, value-one}
-use Rattle.cut.specs.EndsAt.{Drawn, draw-segment, draw-ray, draw-line, draw-side}
 
 -- ---- the determinant of places
 

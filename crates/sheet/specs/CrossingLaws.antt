@@ -4,9 +4,8 @@
 --   crossing-limits, crossing-refusal   refusal 12 is not given; of accepted objects no refusal is
 --   crossing-on-both        the point that is answered is on the line of each of the two, and on each side of the frame
 --   Good, OnFigure, crossing-good   the three in one
---   Sound, accepted-sound   an accepted object by its figure
 -- Assumes nothing.
-use mathlib.Core.Path.{_≡_, refl, sym, _∙_, ap, subst}
+use mathlib.Core.Path.{_≡_, refl, _∙_, ap, subst}
 use mathlib.Core.Bool.{Bool, true, false, cond, _&&_}
 use lib.IntN.{ℤ, pos, _+ℤ_, _-ℤ_, _*ℤ_}
 use lib.Signed.{ltZ}
@@ -20,14 +19,14 @@ use Rattle.whole.specs.Bound.{w-sub, w-mul, w-sgn, w-size}
 use Rattle.whole.specs.Tests.{eqZ, eqZ-true, eqZ-false}
 use Rattle.sheet.specs.declared.Object.{Object}
 use Rattle.sheet.specs.declared.Point.{Point}
-use Rattle.sheet.specs.Figure.{Vec, _⇀_, Side, left, bottom, right, top, outX, outY, Figure, segment, ray, line, side, figure}
+use Rattle.sheet.specs.Figure.{Vec, _⇀_, Side, left, bottom, right, top, outX, outY, Figure, side, figure}
 use Rattle.sheet.specs.Refusal.{Accepted}
 use Rattle.sheet.specs.Points.{size, given, isPoint}
 use Rattle.sheet.specs.Ends.{moment, farEnd, reverse, begins}
 use Rattle.sheet.specs.Signs.{sideOfFigure, sideSign}
 use Rattle.sheet.specs.Crossing.{Meeting, none, point, many, Limit, free, till, Piece, segmentPiece, rayPiece, linePiece, cross, dot, meetingPoint, reaches, skew, later, sooner, between, alike, together, pieces, onSide, endOn, sides, withSide, withPiece, meeting, crossingOf, limitsRefusal, crossingRefusal}
 use Rattle.sheet.specs.Flags.{both}
-use Rattle.sheet.specs.RefusalLaws.{Small, Proper, Taken, accepted-taken, a-segment, a-ray, a-line, a-side}
+use Rattle.sheet.specs.RefusalLaws.{Small, Proper, Drawn, draw-segment, draw-ray, draw-line, draw-side, accepted-drawn}
 use Rattle.sheet.specs.PointsLaws.{Standard, APoint, a-standard, point-is, standard-divided, divided-one}
 use Rattle.sheet.specs.EndsLaws.{Way, proper-way, reverse-way, far-end-fine, given-fine, begins-fine}
 use Rattle.sheet.specs.Expansions.{side-of-figure}
@@ -216,35 +215,20 @@ end-on-good n {G} {e} h g o =
         → OnFigure (side n) e
     on-it t = on-side-sign n e (eqZ-true (t .0)) (eqZ-true (t .1))
 
--- ---- accepted objects, by their figures
+-- ---- all figures
 
-pub data Sound : Figure → Type 0 where
-  is-segment : {p q : Vec} → Proper p q → Sound (segment p q)
-  is-ray : {p q : Vec} → Proper p q → Sound (ray p q)
-  is-line : {p q : Vec} → Proper p q → Sound (line p q)
-  is-side : {n : Side} → Sound (side n)
-
-pub accepted-sound : {o : Object} → Accepted o → Sound (figure o)
-accepted-sound {o} a = go (accepted-taken a)
-  where
-    go : Taken o → Sound (figure o)
-    go (a-segment k e h) = subst Sound (sym e) (is-segment h)
-    go (a-ray k e h) = subst Sound (sym e) (is-ray h)
-    go (a-line k e h) = subst Sound (sym e) (is-line h)
-    go (a-side k s e) = subst Sound (sym e) is-side
-
-with-side-good : (n : Side) {g : Figure} → Sound g → Good (OnFigure (side n)) (OnFigure g) (withSide n g)
+with-side-good : (n : Side) {g : Figure} → Drawn g → Good (OnFigure (side n)) (OnFigure g) (withSide n g)
 unfolding withSide
-with-side-good n (is-segment h) = a-none
-with-side-good n (is-ray {p} {q} h) =
+with-side-good n (draw-segment h) = a-none
+with-side-good n (draw-ray {p} {q} h) =
     end-on-good n (far-end-fine p (p ⇀ q) (proper-way h) .point)
     (on-line-turn p q (farEnd p (p ⇀ q)) (far-on-line p (p ⇀ q) (proper-way h))) a-none
-with-side-good n (is-line {p} {q} h) =
+with-side-good n (draw-line {p} {q} h) =
     let back = reverse-way p (p ⇀ q) (proper-way h) in
     end-on-good n (far-end-fine p (p ⇀ q) (proper-way h) .point) (on-line-turn p q (farEnd p (p ⇀ q)) (far-on-line p (p ⇀ q) (proper-way h)))
     (end-on-good n (far-end-fine p (reverse (p ⇀ q)) back .point)
     (on-line-turn p q (farEnd p (reverse (p ⇀ q))) (on-line-back (far-on-line p (reverse (p ⇀ q)) back))) a-none)
-with-side-good n (is-side {n = m}) = sides-good n m
+with-side-good n (draw-side {n = m}) = sides-good n m
 
 module _ {p q : Vec} (h : Proper p q) where
   at-p : Ended p (p ⇀ q) (till p)
@@ -259,27 +243,27 @@ module _ {p q : Vec} (h : Proper p q) where
   line-fair : Fair (linePiece p q)
   line-fair = record { way = proper-way h; starts = unended; stops = unended }
 
-with-piece-good : {f g : Figure} {A : Piece} → ((e : Point) → OnLine (A .p) (A .d) e → OnFigure f e) → Sound f → Fair A → Sound g
+with-piece-good : {f g : Figure} {A : Piece} → ((e : Point) → OnLine (A .p) (A .d) e → OnFigure f e) → Drawn f → Fair A → Drawn g
     → Good (OnFigure f) (OnFigure g) (withPiece f A g)
 unfolding withPiece
-with-piece-good on s a (is-segment {p} {q} h) = good-map on (on-line-turn p q) (pieces-good a (segment-fair h))
-with-piece-good on s a (is-ray {p} {q} h) = good-map on (on-line-turn p q) (pieces-good a (ray-fair h))
-with-piece-good on s a (is-line {p} {q} h) = good-map on (on-line-turn p q) (pieces-good a (line-fair h))
-with-piece-good on s a (is-side {n}) = good-swap (with-side-good n s)
+with-piece-good on s a (draw-segment {p} {q} h) = good-map on (on-line-turn p q) (pieces-good a (segment-fair h))
+with-piece-good on s a (draw-ray {p} {q} h) = good-map on (on-line-turn p q) (pieces-good a (ray-fair h))
+with-piece-good on s a (draw-line {p} {q} h) = good-map on (on-line-turn p q) (pieces-good a (line-fair h))
+with-piece-good on s a (draw-side {n}) = good-swap (with-side-good n s)
 
-meeting-good : {f g : Figure} → Sound f → Sound g → Good (OnFigure f) (OnFigure g) (meeting f g)
+meeting-good : {f g : Figure} → Drawn f → Drawn g → Good (OnFigure f) (OnFigure g) (meeting f g)
 unfolding meeting
-meeting-good (is-segment {p} {q} h) k = with-piece-good (on-line-turn p q) (is-segment h) (segment-fair h) k
-meeting-good (is-ray {p} {q} h) k = with-piece-good (on-line-turn p q) (is-ray h) (ray-fair h) k
-meeting-good (is-line {p} {q} h) k = with-piece-good (on-line-turn p q) (is-line h) (line-fair h) k
-meeting-good (is-side {n}) k = with-side-good n k
+meeting-good (draw-segment {p} {q} h) k = with-piece-good (on-line-turn p q) (draw-segment h) (segment-fair h) k
+meeting-good (draw-ray {p} {q} h) k = with-piece-good (on-line-turn p q) (draw-ray h) (ray-fair h) k
+meeting-good (draw-line {p} {q} h) k = with-piece-good (on-line-turn p q) (draw-line h) (line-fair h) k
+meeting-good (draw-side {n}) k = with-side-good n k
 
 -- ---- the laws
 
 module _ {a b : Object} (ha : Accepted a) (hb : Accepted b) where
   pub crossing-good : Good (OnFigure (figure a)) (OnFigure (figure b)) (crossingOf a b)
   unfolding crossingOf
-  crossing-good = meeting-good (accepted-sound ha) (accepted-sound hb)
+  crossing-good = meeting-good (accepted-drawn ha) (accepted-drawn hb)
 
   pub crossing-limits : limitsRefusal (crossingOf a b) ≡ pos 0
   crossing-limits = go crossing-good

@@ -12,25 +12,25 @@ use mathlib.Core.Path.{_≡_, refl, sym, _∙_, ap, subst}
 use mathlib.Core.Logic.{_⊎_, inl, inr}
 use mathlib.Core.Bool.{true}
 use mathlib.Core.List.{[], _∷_}
-use Prim.Native.Nat.{ℕ, zero, suc, _∣_, _<_}
+use Prim.Native.Nat.{ℕ, _∣_, _<_}
 use native.Mathlib.Nat.{le-of-dvd, pos-of-dvd-of-pos}
 use native.Mathlib.Omega.{arith}
-use lib.IntN.{ℤ, pos, negsuc, negℤ, natAbs, _-ℤ_, _*ℤ_, negℤ-negℤ}
+use lib.IntN.{ℤ, pos, negsuc, negℤ, natAbs, _-ℤ_, _*ℤ_, *ℤ-zero, negℤ-negℤ}
 use lib.Signed.{_≤ℤ_, _<ℤ_, clashℤ}
 use Rattle.whole.specs.Laws.{one-mul, neg-mul, mul-neg, eq-of-sub}
 use Rattle.whole.specs.Reify.{reify, reading, solve, val-pos}
 use Rattle.whole.specs.Order.{Tri, tri, less, same, more, nn-pos, pp-pos, le-or-lt, le-cert, pp-nn, ≤-trans, ≤-<-trans, ≤-of, <-≤}
 use Rattle.whole.specs.Sign.{sgn}
-use Rattle.whole.specs.SignLaws.{Signs, signs, minus, nought, plus, sgn-abs, neg-pp}
+use Rattle.whole.specs.SignLaws.{Signs, signs, minus, nought, plus, sgn-abs, neg-pp, size-above}
 use Rattle.whole.specs.Bound.{Within, w-is, w-size, w-sub, w-mul, w-neg, w-sgn, w-pos, w-lit}
 use Rattle.whole.specs.Tests.{lt-ltZ, le-ltZ, le-leZ, lt-leZ}
 use Rattle.sheet.specs.declared.Object.{Object}
 use Rattle.sheet.specs.declared.Point.{Point}
-use Rattle.sheet.specs.Figure.{Vec, _⇀_, Side, left, bottom, right, top, Figure, first, second, figure}
+use Rattle.sheet.specs.Figure.{Vec, _⇀_, Side, left, bottom, right, top, Figure}
 use Rattle.sheet.specs.Refusal.{Accepted}
 use Rattle.sheet.specs.Points.{size, given, divisor, isPoint, narrow}
 use Rattle.sheet.specs.Ends.{moment, flat, steep, farRaw, farEnd, reverse, corner, begins, nextSide, firstOf, lastOf, firstEnd, lastEnd}
-use Rattle.sheet.specs.RefusalLaws.{Small, Proper, Taken, accepted-taken, a-segment, a-ray, a-line, a-side}
+use Rattle.sheet.specs.RefusalLaws.{Small, Proper, Drawn, draw-segment, draw-ray, draw-line, draw-side, accepted-drawn}
 use Rattle.sheet.specs.PointsLaws.{same-point, divides-w, divided-one, Narrow, InSquare, inner, on, beside, Frame, APoint, a-standard, a-frame, narrow-is, point-is, frame-divided}
 
 -- ---- which form the far end has
@@ -118,13 +118,7 @@ steep-frame dx dy k hy hk above i = subst Frame (steep-over dx dy k) (over-frame
 
 -- equal sizes that are not both 0
 moving : (dx dy : ℤ) → size dy ≡ size dx → (dx ≡ pos 0 → dy ≡ pos 0 → ⊥) → pos 0 <ℤ size dx
-moving (pos zero) dy e n = absurd (n refl (zero-of dy e))
-  where
-    zero-of : (z : ℤ) → size z ≡ pos 0 → z ≡ pos 0
-    zero-of (pos n) e = e
-    zero-of (negsuc n) e = let f : suc n ≡ 0 = ap natAbs e in absurd (omega arith)
-moving (pos (suc n)) dy e h = pp-pos n
-moving (negsuc n) dy e h = pp-pos n
+moving dx dy e n = size-above (λ z. n z (sym (sgn-abs dy) ∙ ap (λ (w : ℤ). sgn dy *ℤ w) (e ∙ ap size z) ∙ *ℤ-zero (sgn dy)))
 
 pub far-frame : (dx dy k : ℤ) → Way dx dy k → Frame (farRaw dx dy k)
 far-frame dx dy k h = go (far dx dy k)
@@ -243,33 +237,25 @@ reverse-way p d h = record {
   moves = λ e f. h .moves (sym (negℤ-negℤ (d .x)) ∙ ap negℤ e) (sym (negℤ-negℤ (d .y)) ∙ ap negℤ f);
 }
 
+first-fine : {f : Figure} → Drawn f → Fine (firstOf f)
+first-fine (draw-segment h) = given-fine (h .small-p)
+first-fine (draw-ray h) = given-fine (h .small-p)
+first-fine (draw-line {p} {q} h) = far-end-fine p (reverse (p ⇀ q)) (reverse-way p (p ⇀ q) (proper-way h))
+first-fine (draw-side {n}) = begins-fine n
+
+last-fine : {f : Figure} → Drawn f → Fine (lastOf f)
+last-fine (draw-segment h) = given-fine (h .small-q)
+last-fine (draw-ray {p} {q} h) = far-end-fine p (p ⇀ q) (proper-way h)
+last-fine (draw-line {p} {q} h) = far-end-fine p (p ⇀ q) (proper-way h)
+last-fine (draw-side {n}) = begins-fine (nextSide n)
+
 pub first-end-fine : {o : Object} → Accepted o → Fine (firstEnd o)
 unfolding firstEnd
-first-end-fine {o} a = go (accepted-taken a)
-  where
-    is : {f : Figure} → figure o ≡ f → Fine (firstOf f) → Fine (firstOf (figure o))
-    is e = subst (λ (g : Figure). Fine (firstOf g)) (sym e)
-
-    go : Taken o → Fine (firstEnd o)
-    go (a-segment k e h) = is e (given-fine (h .small-p))
-    go (a-ray k e h) = is e (given-fine (h .small-p))
-    go (a-line k e h) =
-        let d = first o ⇀ second o in
-        is e (far-end-fine (first o) (reverse d) (reverse-way (first o) d (proper-way h)))
-    go (a-side k s e) = is e (begins-fine (s .which))
+first-end-fine a = first-fine (accepted-drawn a)
 
 pub last-end-fine : {o : Object} → Accepted o → Fine (lastEnd o)
 unfolding lastEnd
-last-end-fine {o} a = go (accepted-taken a)
-  where
-    is : {f : Figure} → figure o ≡ f → Fine (lastOf f) → Fine (lastOf (figure o))
-    is e = subst (λ (g : Figure). Fine (lastOf g)) (sym e)
-
-    go : Taken o → Fine (lastEnd o)
-    go (a-segment k e h) = is e (given-fine (h .small-q))
-    go (a-ray k e h) = is e (far-end-fine (first o) (first o ⇀ second o) (proper-way h))
-    go (a-line k e h) = is e (far-end-fine (first o) (first o ⇀ second o) (proper-way h))
-    go (a-side k s e) = is e (begins-fine (nextSide (s .which)))
+last-end-fine a = last-fine (accepted-drawn a)
 
 flags-of : {p : Point} → Fine p → (isPoint p ≡ true) × (narrow p ≡ true)
 flags-of {p} f = (point-is p .1 (f .point), narrow-is p .1 (f .slim))

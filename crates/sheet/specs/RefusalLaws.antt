@@ -1,10 +1,11 @@
 -- What an accepted object is. To cite:
 --   Small, Proper            both coordinates at most n; two given points within 2,000 that differ
 --   Taken, accepted-taken    an accepted object by its kind: what figure it is, and what holds of its numbers
+--   Drawn, accepted-drawn    a figure that a sheet takes: that of an accepted object
 --   pair-proper, side-proper   refusal 0 of a pair, of a side;  sideNumber, side-of  the side of a number
 --   kind-segment, kind-ray, kind-line, kind-side   the figure by the kind
 -- Assumes nothing.
-use mathlib.Core.Path.{_≡_, refl, _∙_, ap, subst}
+use mathlib.Core.Path.{_≡_, refl, sym, _∙_, ap, subst}
 use mathlib.Core.Bool.{cond}
 use Prim.Native.Nat.{ℕ, zero, suc, _+_}
 use native.Mathlib.Omega.{arith}
@@ -15,7 +16,7 @@ use Rattle.whole.specs.Order.{le-dest}
 use Rattle.whole.specs.Bound.{Within, w-intro}
 use Rattle.whole.specs.Tests.{eqZ}
 use Rattle.sheet.specs.declared.Object.{Object}
-use Rattle.sheet.specs.Figure.{Vec, Side, left, bottom, right, top, segment, ray, line, side, sideOf, first, second, figure}
+use Rattle.sheet.specs.Figure.{Vec, Side, left, bottom, right, top, Figure, segment, ray, line, side, sideOf, first, second, figure}
 use Rattle.sheet.specs.Refusal.{pairRefusal, sideRefusal, objectRefusal, Accepted}
 use Rattle.sheet.specs.Flags.{flags}
 
@@ -138,3 +139,20 @@ accepted-taken {o} a = let f = simp flags at (a .accepted) in go (one-to-four (o
     go (is-4 e) r =
         let s = side-proper (o .px) (o .py) (o .qx) (o .qy) (simp e at r) in
         a-side e s (kind-side o e ∙ ap (λ (n : ℤ). side (sideOf n)) (s .number) ∙ ap side (side-of (s .which)))
+
+-- ---- its figure
+
+pub data Drawn : Figure → Type 0 where
+  draw-segment : {p q : Vec} → Proper p q → Drawn (segment p q)
+  draw-ray : {p q : Vec} → Proper p q → Drawn (ray p q)
+  draw-line : {p q : Vec} → Proper p q → Drawn (line p q)
+  draw-side : {n : Side} → Drawn (side n)
+
+pub accepted-drawn : {o : Object} → Accepted o → Drawn (figure o)
+accepted-drawn {o} a = go (accepted-taken a)
+  where
+    go : Taken o → Drawn (figure o)
+    go (a-segment k e h) = subst Drawn (sym e) (draw-segment h)
+    go (a-ray k e h) = subst Drawn (sym e) (draw-ray h)
+    go (a-line k e h) = subst Drawn (sym e) (draw-line h)
+    go (a-side k s e) = subst Drawn (sym e) draw-side
