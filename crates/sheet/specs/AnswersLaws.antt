@@ -3,6 +3,7 @@
 --   says-refused, says-accepted the same from the code's test of a call's result
 --   or-zero                     several checks in turn find nothing
 --   refused-first, refused-next   the first that finds something, from the code's test; what comes after one that finds nothing
+--   point-one                   no two points have the same five numbers
 --   made-one, ends-one, signed-one, crossing-one   no two values of an answer say the same numbers
 -- Assumes nothing.
 use mathlib.Core.Path.{_≡_, refl, sym, _∙_, ap, ap₂}

@@ -31,7 +31,7 @@ use Rattle.sheet.specs.Refusal.{Accepted}
 use Rattle.sheet.specs.Points.{size, given, divisor, isPoint, narrow}
 use Rattle.sheet.specs.Ends.{moment, flat, steep, farRaw, farEnd, reverse, corner, begins, nextSide, firstOf, lastOf, firstEnd, lastEnd}
 use Rattle.sheet.specs.RefusalLaws.{Small, Proper, Drawn, draw-segment, draw-ray, draw-line, draw-side, accepted-drawn}
-use Rattle.sheet.specs.PointsLaws.{same-point, divides-w, divided-one, Narrow, InSquare, inner, on, beside, Frame, APoint, a-standard, a-frame, narrow-is, point-is, frame-divided}
+use Rattle.sheet.specs.PointsLaws.{divides-w, divided-one, Narrow, InSquare, inner, on, beside, Frame, APoint, a-standard, a-frame, narrow-is, point-is, frame-divided}
 
 -- ---- which form the far end has
 
@@ -110,7 +110,7 @@ over-frame {p} f = record {
     turned (inr b) = inl b
 
 steep-over : (dx dy k : ℤ) → over (flat dy dx (negℤ k)) ≡ steep dx dy k
-steep-over dx dy k = same-point (over (flat dy dx (negℤ k))) (steep dx dy k) refl (mul-neg (sgn dy) k) refl refl refl
+steep-over dx dy k = λ i. record { mx = dx; nx = mul-neg (sgn dy) k i; my = sgn dy *ℤ size dy; ny = pos 0; w = size dy }
 
 steep-frame : (dx dy k : ℤ) → Within 4000 dy → Within 8000000 k → pos 0 <ℤ size dy
     → InSquare dx (sgn dy *ℤ negℤ k) (size dy) → Frame (steep dx dy k)

@@ -1,12 +1,12 @@
 -- Points: the common divisor going out, and what the Boolean definitions say. To cite:
 --   Times, divided-back      each number of p is the divisor times that of `divided p`
 --   divides-w, divisor-above, divided-above, divided-one      the divisor is above 0; w stays above 0; the divisor is then 1
---   same-point               two points of the same five numbers
 --   Standard, Narrow, OnEdge, InSquare, Frame, APoint    the facts, in ℤ; reduced: the divisor of a point is 1
 --   narrow-is, standard-is, edge-is, in-square-is, frame-is, point-is
 --                            each definition is true exactly where they hold: `.0` reads, `.1` introduces
 --   narrow-divided, frame-divided, standard-divided      the facts survive the division
 --   square-within, Sizes, point-sizes                    bounds for all five numbers
+--   in-proportion            two points whose numbers are in proportion are equal
 -- Assumes nothing.
 use mathlib.Core.Path.{_≡_, sym, _∙_, ap, subst}
 use mathlib.Core.Logic.{_⊎_, inl, inr, _↔_}
@@ -25,10 +25,11 @@ use Rattle.whole.specs.SignLaws.{sgn-mul-pos}
 use Rattle.whole.specs.Bound.{Within, w-is, w-intro, w-upper, w-lower, w-pos, w-lit, w-quot, natAbs-mul}
 use Rattle.whole.specs.Tests.{eqZ}
 use Rattle.whole.specs.Divisor.{DividesAll, none, _also_}
-use Rattle.whole.specs.DivisorLaws.{gcdOf-is, gcdOf-above, over-back, over-one}
+use Rattle.whole.specs.DivisorLaws.{gcdOf-is, gcdOf-above, over-back, over-one, same-numbers}
 use Rattle.sheet.specs.declared.Point.{Point}
 use Rattle.sheet.specs.Points.{numbers, divisor, divided, size, standard, edge, inSquare, narrow, frame, isPoint}
 use Rattle.sheet.specs.Flags.{both, either, eqb-is, flags}
+use Rattle.sheet.specs.AnswersLaws.{point-one}
 
 -- ---- the common divisor goes out
 
@@ -74,10 +75,6 @@ module _ (p : Point) (h : pos 0 <ℤ p .w) where
   pub divided-one : divisor (divided p) ≡ 1
   unfolding divided
   divided-one = over-one (numbers p) above
-
--- "Two points are equal exactly when their five numbers are."
-pub same-point : (p q : Point) → p .mx ≡ q .mx → p .nx ≡ q .nx → p .my ≡ q .my → p .ny ≡ q .ny → p .w ≡ q .w → p ≡ q
-same-point p q a b c d e = λ i. record { mx = a i; nx = b i; my = c i; ny = d i; w = e i }
 
 -- ---- the facts behind the definitions
 
@@ -325,3 +322,12 @@ point-sizes (a-frame f e) = record {
   in-ny = w-lit (f .slim .in-ny) tt;
   in-w = record { above = f .slim .in-w .above; at-most = w-lit (f .slim .in-w .at-most) tt };
 }
+
+-- ---- in proportion, and the divisors 1
+
+pub in-proportion : {p q : Point} → APoint p → APoint q → q .w *ℤ p .mx ≡ p .w *ℤ q .mx → q .w *ℤ p .nx ≡ p .w *ℤ q .nx
+    → q .w *ℤ p .my ≡ p .w *ℤ q .my → q .w *ℤ p .ny ≡ p .w *ℤ q .ny → p ≡ q
+in-proportion {p} {q} a b mx nx my ny =
+    point-one p q
+    (same-numbers (p .w) (q .w) (numbers p) (numbers q) (point-sizes a .in-w .above) (point-sizes b .in-w .above) (reduced a) (reduced b)
+    (λ i. mx i ∷ nx i ∷ my i ∷ ny i ∷ *ℤ-comm (q .w) (p .w) i ∷ []) .1)

@@ -15,7 +15,6 @@ use Prim.Native.Nat.{zero, suc}
 use lib.IntN.{ℤ, pos, negsuc, negℤ, _+ℤ_, _-ℤ_, _*ℤ_, negℤ-negℤ, *ℤ-comm, pos-ne-negsuc}
 use lib.Signed.{_≤ℤ_, _<ℤ_, leZ-yes, ltZ-yes, clashℤ}
 use Rattle.whole.specs.Laws.{eq-of-sub, sub-self}
-use Rattle.whole.specs.Ring.{at}
 use Rattle.whole.specs.Reify.{reify, reading, solve, val-pos}
 use Rattle.whole.specs.Order.{le-nn, lt-pp, nn-add, nn-mul, pp-add, pp-mul, pp-nn, pp-pos, le-or-lt}
 use Rattle.whole.specs.Cert.{le-by, lt-by}
@@ -23,16 +22,15 @@ use Rattle.whole.specs.Sign.{sgn}
 use Rattle.whole.specs.SignLaws.{Signs, signs, minus, nought, plus, sgn-pos, sgn-neg, sgn-neg-eq, sgn-zero, zero-of-sgn, neg-of-sgn}
 use Rattle.whole.specs.Poly.{Poly, value, _⊟_, _⊠_, first, leading}
 use Rattle.whole.specs.PolyLaws.{first-neg, first-zero, first-assoc}
-use Rattle.whole.specs.DivisorLaws.{same-numbers}
 use Rattle.whole.specs.Bound.{Within, w-sub, w-mul, w-pos, w-lit, w-sgn}
 use Rattle.whole.specs.Lead.{small, highest, _under_, lead}
 use Rattle.sheet.specs.declared.Object.{Object}
 use Rattle.sheet.specs.declared.Point.{Point}
 use Rattle.sheet.specs.Figure.{Figure, segment, ray, line, side, figure}
-use Rattle.sheet.specs.Points.{X, Y, W, numbers, isPoint, given}
+use Rattle.sheet.specs.Points.{X, Y, W, isPoint, given}
 use Rattle.sheet.specs.Ends.{begins, nextSide}
 use Rattle.sheet.specs.Signs.{order, turnPoly, turn, sideOfFigure, sideSign}
-use Rattle.sheet.specs.PointsLaws.{APoint, reduced, Sizes, point-is, point-sizes, same-point}
+use Rattle.sheet.specs.PointsLaws.{APoint, Sizes, point-is, point-sizes, in-proportion}
 use Rattle.sheet.specs.Expansions.{orderX, orderY, order-is, det, turnA, turnB, turnC, turn-is, turn-by}
 
 -- ---- order
@@ -58,21 +56,14 @@ order-self p = order-is p p ∙ simp (sub-self, sgn-zero)
 
 -- all four coordinates in proportion, and the divisors 1
 same-of-zero : (p q : Point) → APoint p → APoint q → order p q ≡ pos 0 → p ≡ q
-same-of-zero p q hp hq e = same-point p q (ap (λ (zs : List ℤ). at zs 0) all) (ap (λ (zs : List ℤ). at zs 1) all)
-    (ap (λ (zs : List ℤ). at zs 2) all) (ap (λ (zs : List ℤ). at zs 3) all) (ap (λ (zs : List ℤ). at zs 4) all)
+same-of-zero p q hp hq e =
+    let z = first-zero _ _ (sym (order-is p q) ∙ e) in
+    let x = first-zero _ _ (z .0) in
+    let y = first-zero _ _ (z .1) in
+    in-proportion hp hq (ratio (p .mx) (q .mx) (x .0)) (ratio (p .nx) (q .nx) (x .1)) (ratio (p .my) (q .my) (y .0)) (ratio (p .ny) (q .ny) (y .1))
   where
     ratio : (a b : ℤ) → sgn (a *ℤ q .w -ℤ b *ℤ p .w) ≡ pos 0 → q .w *ℤ a ≡ p .w *ℤ b
     ratio a b z = *ℤ-comm (q .w) a ∙ eq-of-sub (a *ℤ q .w) (b *ℤ p .w) (zero-of-sgn z) ∙ *ℤ-comm b (p .w)
-
-    all : numbers p ≡ numbers q
-    all =
-        let z = first-zero _ _ (sym (order-is p q) ∙ e) in
-        let x = first-zero _ _ (z .0) in
-        let y = first-zero _ _ (z .1) in
-        same-numbers (p .w) (q .w) (numbers p) (numbers q)
-        (point-sizes hp .in-w .above) (point-sizes hq .in-w .above) (reduced hp) (reduced hq)
-        (λ i. ratio (p .mx) (q .mx) (x .0) i ∷ ratio (p .nx) (q .nx) (x .1) i ∷ ratio (p .my) (q .my) (y .0) i
-        ∷ ratio (p .ny) (q .ny) (y .1) i ∷ *ℤ-comm (q .w) (p .w) i ∷ []) .1
 
 pub order-zero : (p q : Point) → isPoint p ≡ true → isPoint q ≡ true → (order p q ≡ pos 0) ↔ (p ≡ q)
 order-zero p q hp hq =
