@@ -3,13 +3,11 @@
 -- Assumes nothing.
 use mathlib.Core.Path.{_≡_, ap, _∙_}
 use mathlib.Core.Bool.{true}
-use mathlib.Core.List.{[], _∷_}
-use lib.IntN.{ℤ, pos, negℤ, _+ℤ_, _-ℤ_}
+use lib.IntN.{ℤ, pos, negℤ, _+ℤ_, _-ℤ_, +ℤ-idl, +ℤ-idr}
 use lib.Signed.{_<ℤ_}
 use Rattle.whole.specs.Sign.{sgn}
 use Rattle.whole.specs.SignLaws.{sgn-pos}
 use Rattle.whole.specs.Poly.{first}
-use Rattle.whole.specs.Ring.{lit, var, _⊕_, _⊖_, ring}
 use Rattle.sheet.specs.declared.Point.{Point}
 use Rattle.sheet.specs.Figure.{Side, left, bottom, right, top, side}
 use Rattle.sheet.specs.Points.{standard}
@@ -23,10 +21,10 @@ ahead t e h = ap (λ (s : ℤ). first s t) (ap sgn e ∙ sgn-pos h)
 
 -- m + w and w - m, where m is 0
 plus : {m w : ℤ} → m ≡ pos 0 → m +ℤ w ≡ w
-plus {w = w} e = ap (λ (m : ℤ). m +ℤ w) e ∙ ring (w ∷ []) (lit 0 ⊕ var 0) (var 0) tt
+plus {w = w} e = ap (λ (m : ℤ). m +ℤ w) e ∙ +ℤ-idl w
 
 less : {m w : ℤ} → m ≡ pos 0 → w -ℤ m ≡ w
-less {w = w} e = ap (λ (m : ℤ). w -ℤ m) e ∙ ring (w ∷ []) (var 0 ⊖ lit 0) (var 0) tt
+less {w = w} e = ap (λ (m : ℤ). w -ℤ m) e ∙ +ℤ-idr w
 
 pub inside-is-left : (n : Side) (p : Point) → standard p ≡ true → sideOfFigure (side n) p ≡ pos 1
 inside-is-left n p h = go n

@@ -21,7 +21,7 @@ use Rattle.whole.specs.Cert.{le-by, lt-by}
 use Rattle.whole.specs.Sign.{sgn}
 use Rattle.whole.specs.SignLaws.{Signs, signs, minus, nought, plus, sgn-pos, sgn-neg, sgn-neg-eq, sgn-zero, zero-of-sgn, neg-of-sgn}
 use Rattle.whole.specs.Poly.{Poly, value, _⊟_, _⊠_, first, leading}
-use Rattle.whole.specs.PolyLaws.{first-neg, first-zero, first-assoc}
+use Rattle.whole.specs.PolyLaws.{first-neg, first-zero, first-assoc, leading-opposite}
 use Rattle.whole.specs.Bound.{Within, w-sub, w-mul, w-pos, w-lit, w-sgn}
 use Rattle.whole.specs.Lead.{small, highest, _under_, lead}
 use Rattle.sheet.specs.declared.Object.{Object}
@@ -31,7 +31,7 @@ use Rattle.sheet.specs.Points.{X, Y, W, isPoint, given}
 use Rattle.sheet.specs.Ends.{begins, nextSide}
 use Rattle.sheet.specs.Signs.{order, turnPoly, turn, sideOfFigure, sideSign}
 use Rattle.sheet.specs.PointsLaws.{APoint, Sizes, point-is, point-sizes, in-proportion}
-use Rattle.sheet.specs.Expansions.{orderX, orderY, order-is, det, turnA, turnB, turnC, turn-is, turn-by}
+use Rattle.sheet.specs.Expansions.{orderX, orderY, order-is, det, turnA, turnB, turnC, turn-poly-is}
 
 -- ---- order
 
@@ -185,12 +185,11 @@ module _ (p q s : Point) where
   -- the three coefficients' opposites
   negated : (a b c : Point) → turnA a b c ≡ negℤ (turnA p q s) → turnB a b c ≡ negℤ (turnB p q s) → turnC a b c ≡ negℤ (turnC p q s)
       → turn a b c ≡ negℤ (turn p q s)
+  unfolding turn
   negated a b c e f g =
-      turn-by a b c e f g
-      ∙ (λ i. first (first (sgn-neg-eq (turnA p q s) i) (sgn-neg-eq (turnB p q s) i)) (sgn-neg-eq (turnC p q s) i))
-      ∙ ap (λ (x : ℤ). first x (negℤ (sgn (turnC p q s)))) (first-neg (sgn (turnA p q s)) (sgn (turnB p q s)))
-      ∙ first-neg (first (sgn (turnA p q s)) (sgn (turnB p q s))) (sgn (turnC p q s))
-      ∙ sym (ap negℤ (turn-is p q s))
+      ap leading (turn-poly-is a b c ∙ (λ i. g i ∷ f i ∷ e i ∷ []))
+      ∙ leading-opposite (turnC p q s ∷ turnB p q s ∷ turnA p q s ∷ [])
+      ∙ sym (ap (λ (P : Poly). negℤ (leading P)) (turn-poly-is p q s))
 
   pub turn-swap-first : turn q p s ≡ negℤ (turn p q s)
   turn-swap-first =

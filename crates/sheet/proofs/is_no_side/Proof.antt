@@ -1,5 +1,4 @@
 use Rattle.whole.specs.Tests.{out-is, lit-flag}
-use Rattle.whole.specs.Tests.{out-is}
 use Rattle.sheet.proofs.is_no_side.Statement.{statement}
 use Rattle.sheet.proofs.is_no_side.Tie as tie
 
