@@ -4,15 +4,16 @@
 --   crossing-limits, crossing-refusal   refusal 12 is not given; of accepted objects no refusal is
 --   crossing-on-both        the point that is answered is on the line of each of the two, and on each side of the frame
 --   Good, OnFigure, crossing-good   the three in one
+--   meeting-standard        the point where two lines meet is a standard point, before the division too
 -- Assumes nothing.
 use mathlib.Core.Path.{_≡_, refl, _∙_, ap, subst}
 use mathlib.Core.Bool.{Bool, true, false, cond, _&&_}
+use mathlib.Core.List.{List, [], _∷_}
 use lib.IntN.{ℤ, pos, _+ℤ_, _-ℤ_, _*ℤ_}
 use lib.Signed.{ltZ}
-use mathlib.Core.List.{[], _∷_}
 use Rattle.whole.specs.Ring.{var, lit, _⊖_, _⊗_, ring}
 use Rattle.whole.specs.Reify.{reify, reading, solve, val-pos}
-use Rattle.whole.specs.Cert.{z-eq, eq-cert}
+use Rattle.whole.specs.Cert.{z-eq, z-add, eq-cert}
 use Rattle.whole.specs.Sign.{sgn}
 use Rattle.whole.specs.SignLaws.{sgn-mul-self, size-above}
 use Rattle.whole.specs.Bound.{w-sub, w-mul, w-sgn, w-size}
@@ -66,68 +67,59 @@ record Fair (A : Piece) : Type 0 where
   starts : Ended (A .p) (A .d) (A .start)
   stops : Ended (A .p) (A .d) (A .stop)
 
+-- ---- not parallel
+
+module _ (A B : Piece) where
+  -- "Standard: .. w at most 32,000,000, nx and ny within 64,000,000,000 either way"
+  pub meeting-standard : Way (A .d .x) (A .d .y) (moment (A .p) (A .d)) → Way (B .d .x) (B .d .y) (moment (B .p) (B .d))
+      → (cross (A .d) (B .d) ≡ pos 0 → ⊥) → Standard (meetingPoint A B)
+  meeting-standard a b n = record {
+    no-mx = refl;
+    no-my = refl;
+    in-w = record { above = size-above n; at-most = w-size (w-sub (w-mul (a .in-dx) (b .in-dy)) (w-mul (a .in-dy) (b .in-dx))) };
+    in-nx = w-mul (w-sgn (cross (A .d) (B .d))) (w-sub (w-mul (a .in-k) (b .in-dx)) (w-mul (b .in-k) (a .in-dx)));
+    in-ny = w-mul (w-sgn (cross (A .d) (B .d))) (w-sub (w-mul (a .in-k) (b .in-dy)) (w-mul (b .in-k) (a .in-dy)));
+  }
+
+  -- on the line of r and u, j its moment, where k (u x f) - m (u x d) = j (d x f): with s (d x f) = w, u x n = w j
+  meeting-on : (r u : Vec)
+      → moment (A .p) (A .d) *ℤ cross u (B .d) -ℤ moment (B .p) (B .d) *ℤ cross u (A .d) ≡ moment r u *ℤ cross (A .d) (B .d)
+      → OnLine r u (meetingPoint A B)
+  meeting-on r u h =
+      let c = cross (A .d) (B .d) in
+      record {
+        level = ring (u .x ∷ u .y ∷ []) (var 0 ⊗ lit 0 ⊖ var 1 ⊗ lit 0) (lit 0) tt;
+        even =
+            eq-cert _ (z-add (z-eq (sgn c) h) (z-eq (moment r u) (sgn-mul-self c)))
+            (go (A .d .x) (A .d .y) (B .d .x) (B .d .y) (u .x) (u .y) (moment (A .p) (A .d)) (moment (B .p) (B .d)) (moment r u) c (sgn c) (size c));
+      }
+    where
+      go : (dx dy fx fy ux uy k m j c s w : ℤ) →
+          ux *ℤ (s *ℤ (k *ℤ fy -ℤ m *ℤ dy)) -ℤ uy *ℤ (s *ℤ (k *ℤ fx -ℤ m *ℤ dx)) -ℤ w *ℤ j -ℤ pos 0
+          ≡ s *ℤ (k *ℤ (ux *ℤ fy -ℤ uy *ℤ fx) -ℤ m *ℤ (ux *ℤ dy -ℤ uy *ℤ dx) -ℤ j *ℤ c) +ℤ j *ℤ (s *ℤ c -ℤ w)
+      go dx dy fx fy ux uy k m j c s w =
+          reify (dx ∷ dy ∷ fx ∷ fy ∷ ux ∷ uy ∷ k ∷ m ∷ j ∷ c ∷ s ∷ w ∷ [])
+          (λ ρ v. simp (reading, val-pos ρ, v 0, v 1, v 2, v 3, v 4, v 5, v 6, v 7, v 8, v 9, v 10, v 11) (solve _ _ _ tt))
+
+  abbrev eight : List ℤ
+  eight = A .p .x ∷ A .p .y ∷ A .d .x ∷ A .d .y ∷ B .p .x ∷ B .p .y ∷ B .d .x ∷ B .d .y ∷ []
+
+  meeting-first : OnLine (A .p) (A .d) (meetingPoint A B)
+  meeting-first = meeting-on (A .p) (A .d) (reify eight (λ ρ v. simp (reading, v 0, v 1, v 2, v 3, v 4, v 5, v 6, v 7) (solve _ _ _ tt)))
+
+  meeting-second : OnLine (B .p) (B .d) (meetingPoint A B)
+  meeting-second = meeting-on (B .p) (B .d) (reify eight (λ ρ v. simp (reading, v 0, v 1, v 2, v 3, v 4, v 5, v 6, v 7) (solve _ _ _ tt)))
+
 module _ {A B : Piece} (a : Fair A) (b : Fair B) where
-  -- ---- not parallel
-
-  module _ (n : cross (A .d) (B .d) ≡ pos 0 → ⊥) where
-    standard-meeting : Standard (meetingPoint A B)
-    standard-meeting = record {
-      no-mx = refl;
-      no-my = refl;
-      in-w = record {
-        above = size-above n;
-        at-most = w-size (w-sub (w-mul (a .way .in-dx) (b .way .in-dy)) (w-mul (a .way .in-dy) (b .way .in-dx)));
-      };
-      in-nx =
-          w-mul (w-sgn (cross (A .d) (B .d)))
-          (w-sub (w-mul (a .way .in-k) (b .way .in-dx)) (w-mul (b .way .in-k) (a .way .in-dx)));
-      in-ny =
-          w-mul (w-sgn (cross (A .d) (B .d)))
-          (w-sub (w-mul (a .way .in-k) (b .way .in-dy)) (w-mul (b .way .in-k) (a .way .in-dy)));
-    }
-
-    -- with s (d x f) = w:  d x n = s k (d x f) = w k,  f x n = s m (d x f) = w m
-    meeting-first : OnLine (A .p) (A .d) (meetingPoint A B)
-    meeting-first = record {
-      level = ring (A .d .x ∷ A .d .y ∷ []) (var 0 ⊗ lit 0 ⊖ var 1 ⊗ lit 0) (lit 0) tt;
-      even =
-          eq-cert _ (z-eq (moment (A .p) (A .d)) (sgn-mul-self (cross (A .d) (B .d))))
-          (go (A .d .x) (A .d .y) (B .d .x) (B .d .y) (sgn (cross (A .d) (B .d))) (moment (A .p) (A .d)) (moment (B .p) (B .d))
-          (size (cross (A .d) (B .d))));
-    }
-      where
-        go : (dx dy fx fy s k m w : ℤ) →
-            dx *ℤ (s *ℤ (k *ℤ fy -ℤ m *ℤ dy)) -ℤ dy *ℤ (s *ℤ (k *ℤ fx -ℤ m *ℤ dx)) -ℤ w *ℤ k -ℤ pos 0
-            ≡ k *ℤ (s *ℤ (dx *ℤ fy -ℤ dy *ℤ fx) -ℤ w)
-        go dx dy fx fy s k m w =
-            reify (dx ∷ dy ∷ fx ∷ fy ∷ s ∷ k ∷ m ∷ w ∷ [])
-            (λ ρ v. simp (reading, val-pos ρ, v 0, v 1, v 2, v 3, v 4, v 5, v 6, v 7) (solve _ _ _ tt))
-
-    meeting-second : OnLine (B .p) (B .d) (meetingPoint A B)
-    meeting-second = record {
-      level = ring (B .d .x ∷ B .d .y ∷ []) (var 0 ⊗ lit 0 ⊖ var 1 ⊗ lit 0) (lit 0) tt;
-      even =
-          eq-cert _ (z-eq (moment (B .p) (B .d)) (sgn-mul-self (cross (A .d) (B .d))))
-          (go (A .d .x) (A .d .y) (B .d .x) (B .d .y) (sgn (cross (A .d) (B .d))) (moment (A .p) (A .d)) (moment (B .p) (B .d))
-          (size (cross (A .d) (B .d))));
-    }
-      where
-        go : (dx dy fx fy s k m w : ℤ) →
-            fx *ℤ (s *ℤ (k *ℤ fy -ℤ m *ℤ dy)) -ℤ fy *ℤ (s *ℤ (k *ℤ fx -ℤ m *ℤ dx)) -ℤ w *ℤ m -ℤ pos 0
-            ≡ m *ℤ (s *ℤ (dx *ℤ fy -ℤ dy *ℤ fx) -ℤ w)
-        go dx dy fx fy s k m w =
-            reify (dx ∷ dy ∷ fx ∷ fy ∷ s ∷ k ∷ m ∷ w ∷ [])
-            (λ ρ v. simp (reading, val-pos ρ, v 0, v 1, v 2, v 3, v 4, v 5, v 6, v 7) (solve _ _ _ tt))
-
-    skew-good : Good (OnLine (A .p) (A .d)) (OnLine (B .p) (B .d)) (skew A B)
-    skew-good =
-        let above = size-above n in
-        let D = cross (A .d) (B .d) in
-        good-cond
-        (reaches A (sgn D *ℤ cross (A .p ⇀ B .p) (B .d)) (size D) && reaches B (sgn D *ℤ cross (A .p ⇀ B .p) (A .d)) (size D))
-        (λ t. a-point (a-standard (standard-divided standard-meeting) (divided-one (meetingPoint A B) above))
-        (on-line-divided above meeting-first) (on-line-divided above meeting-second))
-        (λ t. a-none)
+  skew-good : (cross (A .d) (B .d) ≡ pos 0 → ⊥) → Good (OnLine (A .p) (A .d)) (OnLine (B .p) (B .d)) (skew A B)
+  skew-good n =
+      let above = size-above n in
+      let D = cross (A .d) (B .d) in
+      good-cond
+      (reaches A (sgn D *ℤ cross (A .p ⇀ B .p) (B .d)) (size D) && reaches B (sgn D *ℤ cross (A .p ⇀ B .p) (A .d)) (size D))
+      (λ t. a-point (a-standard (standard-divided (meeting-standard A B (a .way) (b .way) n)) (divided-one (meetingPoint A B) above))
+      (on-line-divided above (meeting-first A B)) (on-line-divided above (meeting-second A B)))
+      (λ t. a-none)
 
   -- ---- on one line
 
