@@ -17,15 +17,15 @@ use Rattle.sheet.specs.Refusal.{Accepted}
 use Rattle.sheet.specs.RefusalLaws.{Proper, Drawn, draw-segment, draw-ray, draw-line, draw-side, accepted-drawn}
 use Rattle.sheet.specs.PointsLaws.{APoint, point-is}
 use Rattle.sheet.specs.EndsLaws.{proper-way}
-use Rattle.sheet.specs.Crossing.{Meeting, none, point, many, Piece, segmentPiece, rayPiece, linePiece, dot, pieces, withSide, withPiece, meeting, crossingOf}
+use Rattle.sheet.specs.Crossing.{Meeting, none, point, many, Limit, Piece, segmentPiece, rayPiece, linePiece, dot, pieces, withSide, withPiece, meeting, crossingOf}
 use Rattle.cut.specs.Bounds.{crossingNeed}
 use Rattle.cut.specs.Place.{Place, SamePlace, put, Spot, spot}
 use Rattle.cut.specs.Cut.{On, on-segment, on-ray, on-line, Shared, OnlyShared, MoreShared, NothingShared}
 use Rattle.cut.specs.Claims.{Answered, SharedPoint}
 use Rattle.cut.specs.Same.{same-sym, same-trans, same-place, same-spot, placeOf, place-spot, spotAt, put-spot, on-same, of-segment, of-ray, of-line}
 use Rattle.cut.specs.Line.{size², online-p, online-q}
-use Rattle.cut.specs.Square.{larger-square, segment-small, length-pq, small-d}
-use Rattle.cut.specs.Pieces.{after-free, after-till, before-free, before-till, of-after, of-before, Part, marked-free, marked-till, marks-free, marks-till, Fit}
+use Rattle.cut.specs.Square.{larger-square, segment-small, length-pq}
+use Rattle.cut.specs.Pieces.{after-free, after-till, before-free, before-till, of-after, of-before, Part, Marked, marked-free, marked-till, Marks, marks-free, marks-till, Fit}
 use Rattle.cut.specs.Says.{Both, both-swap, both-map, Says, says-none, says-point, says-many, says-map}
 use Rattle.cut.specs.Skew.{pieces-says}
 use Rattle.cut.specs.SideMeets.{segment-says, ray-says, line-says}
@@ -41,37 +41,24 @@ data Linear : Figure → Piece → Type 0 where
 mark-q : (p q : Vec) → dot (p ⇀ q) q ≡ dot (p ⇀ q) p +ℤ size² (p ⇀ q)
 mark-q p q = reify (p .x ∷ p .y ∷ q .x ∷ q .y ∷ []) (λ ρ v. simp (reading, v 0, v 1, v 2, v 3) (solve _ _ _ tt))
 
+fit-by : {p q : Vec} {l h : Limit} → Proper p q → Marked p (p ⇀ q) l → Marked p (p ⇀ q) h
+    → Marks (p ⇀ q) (dot (p ⇀ q) p) l → Marks (p ⇀ q) (dot (p ⇀ q) p +ℤ size² (p ⇀ q)) h
+    → Fit (record { p = p; d = p ⇀ q; start = l; stop = h })
+fit-by a l h u v = record {
+  small-p = a .small-p;
+  way = proper-way a;
+  len = length-pq a;
+  start-ok = l;
+  stop-ok = h;
+  at-p = u;
+  at-q = v;
+}
+
 fit : {f : Figure} {A : Piece} → Linear f A → Fit A
-fit (is-segment {p = p} {q = q} a) = record {
-  small-p = a .small-p;
-  small-d = small-d a;
-  small-k = proper-way a .in-k;
-  len = length-pq a;
-  start-ok = marked-till (online-p p (p ⇀ q)) (a .small-p);
-  stop-ok = marked-till (online-q p q) (a .small-q);
-  at-p = marks-till refl;
-  at-q = marks-till (mark-q p q);
-}
-fit (is-ray {p = p} {q = q} a) = record {
-  small-p = a .small-p;
-  small-d = small-d a;
-  small-k = proper-way a .in-k;
-  len = length-pq a;
-  start-ok = marked-till (online-p p (p ⇀ q)) (a .small-p);
-  stop-ok = marked-free;
-  at-p = marks-till refl;
-  at-q = marks-free;
-}
-fit (is-line a) = record {
-  small-p = a .small-p;
-  small-d = small-d a;
-  small-k = proper-way a .in-k;
-  len = length-pq a;
-  start-ok = marked-free;
-  stop-ok = marked-free;
-  at-p = marks-free;
-  at-q = marks-free;
-}
+fit (is-segment {p = p} {q = q} a) =
+    fit-by a (marked-till (online-p p (p ⇀ q)) (a .small-p)) (marked-till (online-q p q) (a .small-q)) (marks-till refl) (marks-till (mark-q p q))
+fit (is-ray {p = p} {q = q} a) = fit-by a (marked-till (online-p p (p ⇀ q)) (a .small-p)) marked-free (marks-till refl) marks-free
+fit (is-line a) = fit-by a marked-free marked-free marks-free marks-free
 
 part-on : {R : ℤ} → pos 2000 ≤ℤ R → {f : Figure} {A : Piece} → Linear f A → (S : Spot) → Part R A S ↔ On R f S
 part-on hR (is-segment a) S = (

@@ -13,8 +13,8 @@ use Rattle.whole.specs.Tests.{cond-by, ltZ-true, ltZ-false}
 use Rattle.whole.specs.Cert.{z-eq, eq-cert}
 use Rattle.sheet.specs.Figure.{Vec}
 use Rattle.sheet.specs.RefusalLaws.{Small}
-use Rattle.sheet.specs.Ends.{reverse}
-use Rattle.sheet.specs.EndsLaws.{given-fine}
+use Rattle.sheet.specs.Ends.{moment, reverse}
+use Rattle.sheet.specs.EndsLaws.{Way, given-fine}
 use Rattle.sheet.specs.Crossing.{point, many, Limit, till, Piece, dot, later, sooner, between, alike, together}
 use Rattle.cut.specs.Place.{Spot, fixed}
 use Rattle.cut.specs.Cut.{OnLine}
@@ -36,7 +36,7 @@ on-by d a = record { x = a .x +ℤ d .x; y = a .y +ℤ d .y }
 abbrev back-by : Vec → Vec → Vec
 back-by d a = record { x = a .x -ℤ d .x; y = a .y -ℤ d .y }
 
-module _ {R : ℤ} (hR : pos 6000 ≤ℤ R) (p d : Vec) (sp : Small 2000 p) (sd : Small 4000 d) (len : pos 0 <ℤ size² d) where
+module _ {R : ℤ} (hR : pos 6000 ≤ℤ R) (p d : Vec) (sp : Small 2000 p) (way : Way (d .x) (d .y) (moment p d)) (len : pos 0 <ℤ size² d) where
   online-on : (a : Vec) → OnLine p d (fixed a) → OnLine p d (fixed (on-by d a))
   online-on a h = record {
     online =
@@ -63,10 +63,10 @@ module _ {R : ℤ} (hR : pos 6000 ≤ℤ R) (p d : Vec) (sp : Small 2000 p) (sd 
   wide s = record { in-x = w-lit (s .in-x) tt; in-y = w-lit (s .in-y) tt }
 
   small-on : {a : Vec} → Small 2000 a → Small 6000 (on-by d a)
-  small-on s = record { in-x = w-add (s .in-x) (sd .in-x); in-y = w-add (s .in-y) (sd .in-y) }
+  small-on s = record { in-x = w-add (s .in-x) (way .in-dx); in-y = w-add (s .in-y) (way .in-dy) }
 
   small-behind : {a : Vec} → Small 2000 a → Small 6000 (back-by d a)
-  small-behind s = record { in-x = w-sub (s .in-x) (sd .in-x); in-y = w-sub (s .in-y) (sd .in-y) }
+  small-behind s = record { in-x = w-sub (s .in-x) (way .in-dx); in-y = w-sub (s .in-y) (way .in-dy) }
 
   -- a given place of the part
   part-at : {l h : Limit} (a : Vec) → OnLine p d (fixed a) → Small 6000 a → After d l (fixed a) → Before d h (fixed a)
@@ -186,6 +186,6 @@ module _ {R : ℤ} (hR : pos 6000 ≤ℤ R) (A B : Piece) (fA : Fit A) (fB : Fit
   pub together-says : Says R (Both (Part R A) (Part R B)) (together A B)
   together-says =
       says-map common-both
-      (between-says hR (A .p) (A .d) (fA .small-p) (fA .small-d) (fA .len)
+      (between-says hR (A .p) (A .d) (fA .small-p) (fA .way) (fA .len)
       (marked-later (fA .start-ok) (marked-A (marked-cond (alike A B) (fB .start-ok) (fB .stop-ok))))
       (marked-sooner (fA .stop-ok) (marked-A (marked-cond (alike A B) (fB .stop-ok) (fB .start-ok)))))

@@ -5,21 +5,21 @@
 --   between-over, between-turn, turn-between   limits in a parallel direction, and in the reversed one
 --   Marks, Marked, Fit              what the laws need of a piece: small numbers, and limits that are given places of its line
 -- Assumes nothing of R.
-use mathlib.Core.Path.{_≡_}
+use mathlib.Core.Path.{_≡_, subst}
 use mathlib.Core.Logic.{_↔_}
 use lib.IntN.{ℤ, pos, _+ℤ_, _*ℤ_}
 use lib.Signed.{_<ℤ_, ltZ}
 use Rattle.whole.specs.Order.{<-≤}
-use Rattle.whole.specs.Bound.{Within}
 use Rattle.whole.specs.Tests.{cond-by, ltZ-true, ltZ-false}
 use Rattle.sheet.specs.Figure.{Vec}
 use Rattle.sheet.specs.RefusalLaws.{Small}
 use Rattle.sheet.specs.Ends.{moment, reverse}
+use Rattle.sheet.specs.EndsLaws.{Way}
 use Rattle.sheet.specs.Crossing.{Limit, free, till, Piece, dot, later, sooner}
 use Rattle.cut.specs.Place.{Spot, fixed}
 use Rattle.cut.specs.Cut.{OnLine, Upto, InSquare}
 use Rattle.cut.specs.Same.{Same, online-same, upto-same, same-upto-left, square-same}
-use Rattle.cut.specs.Line.{size², upto-trans, upto-given, upto-turn, upto-back, upto-over}
+use Rattle.cut.specs.Line.{size², upto-trans, upto-given, reverse-twice, upto-turn, upto-over}
 
 pub data After (d : Vec) : Limit → Spot → Type 0 where
   after-free : {S : Spot} → After d free S
@@ -108,19 +108,11 @@ before-turn : {d : Vec} {l : Limit} {S : Spot} → Before d l S → After (rever
 before-turn before-free = after-free
 before-turn (before-till h) = after-till (upto-turn h)
 
-turn-after : {d : Vec} {l : Limit} {S : Spot} → After (reverse d) l S → Before d l S
-turn-after after-free = before-free
-turn-after (after-till h) = before-till (upto-back h)
-
-turn-before : {d : Vec} {l : Limit} {S : Spot} → Before (reverse d) l S → After d l S
-turn-before before-free = after-free
-turn-before (before-till h) = after-till (upto-back h)
-
 pub between-turn : {d : Vec} {l h : Limit} {S : Spot} → Between d l h S → Between (reverse d) h l S
 between-turn b = record { after = before-turn (b .before); before = after-turn (b .after) }
 
 pub turn-between : {d : Vec} {l h : Limit} {S : Spot} → Between (reverse d) h l S → Between d l h S
-turn-between b = record { after = turn-before (b .before); before = turn-after (b .after) }
+turn-between {d} {l} {h} {S} b = subst (λ (c : Vec). Between c l h S) (reverse-twice d) (between-turn b)
 
 -- ---- what is needed of a piece
 
@@ -136,8 +128,7 @@ pub data Marks (d : Vec) (v : ℤ) : Limit → Type 0 where
 
 pub record Fit (A : Piece) : Type 0 where
   pub small-p : Small 2000 (A .p)
-  pub small-d : Small 4000 (A .d)
-  pub small-k : Within 8000000 (moment (A .p) (A .d))
+  pub way : Way (A .d .x) (A .d .y) (moment (A .p) (A .d))
   pub len : pos 0 <ℤ size² (A .d)
   pub start-ok : Marked (A .p) (A .d) (A .start)
   pub stop-ok : Marked (A .p) (A .d) (A .stop)

@@ -4,16 +4,14 @@ use mathlib.Core.Path.{_≡_, refl, sym, _∙_}
 use mathlib.Core.Logic.{_↔_}
 use mathlib.Core.List.{[], _∷_}
 use mathlib.Core.Bool.{Bool, true, _&&_, true≢false}
-use Prim.Native.Nat.{zero, suc}
 use lib.IntN.{ℤ, pos, negsuc, negℤ, _+ℤ_, _-ℤ_, _*ℤ_}
 use lib.Signed.{_≤ℤ_, _<ℤ_, leZ-yes}
 use Rattle.whole.specs.Ring.{var, con, _⊕_, _⊗_, ring}
 use Rattle.whole.specs.Reify.{reify, reading, solve, val-pos, val-negsuc}
 use Rattle.whole.specs.Laws.{eq-of-sub}
-use Rattle.whole.specs.Order.{le-cert, le-nn, nn-add, nn-mul, pp-nn, pp-pos, ≤-trans}
+use Rattle.whole.specs.Order.{le-cert, le-nn, nn-add, nn-mul, pp-nn, ≤-trans}
 use Rattle.whole.specs.Sign.{sgn}
-use Rattle.whole.specs.SignLaws.{sgn-mul-self}
-use Rattle.whole.specs.Bound.{Within, w-sub, w-mul, w-sgn, w-size}
+use Rattle.whole.specs.SignLaws.{sgn-mul-self, size-above}
 use Rattle.whole.specs.Tests.{cond-by, eqZ, eqZ-true, eqZ-false, leZ-true, le-leZ}
 use Rattle.whole.specs.Cert.{z-eq, z-add, nn-eq, le-by, eq-by, eq-cert}
 use Rattle.sheet.specs.Figure.{Vec, _⇀_}
@@ -22,6 +20,7 @@ use Rattle.sheet.specs.PointsLaws.{Standard, APoint, a-standard, standard-divid
 use Rattle.sheet.specs.Ends.{moment}
 use Rattle.sheet.specs.Flags.{both}
 use Rattle.sheet.specs.Crossing.{Limit, Piece, cross, dot, meetingPoint, notBefore, notBeyond, reaches, skew, pieces}
+use Rattle.sheet.specs.CrossingLaws.{meeting-standard}
 use Rattle.cut.specs.Bounds.{crossingNeed}
 use Rattle.cut.specs.Place.{Spot}
 use Rattle.cut.specs.Cut.{OnLine, along, InSquare}
@@ -158,7 +157,10 @@ standing R x y w h = record { same-x = go x; same-y = go y }
     go : (z : ℤ) → z *ℤ w ≡ (pos 0 *ℤ R +ℤ z) *ℤ w
     go z = ring (R ∷ z ∷ w ∷ []) (var 1 ⊗ var 2) ((con (pos 0) ⊗ var 0 ⊕ var 1) ⊗ var 2) tt
 
-module _ {R : ℤ} (hR : pos crossingNeed ≤ℤ R) (A B : Piece) (fA : Fit A) (fB : Fit B) (apart : pos 0 <ℤ size (cross (A .d) (B .d))) where
+module _ {R : ℤ} (hR : pos crossingNeed ≤ℤ R) (A B : Piece) (fA : Fit A) (fB : Fit B) (n : cross (A .d) (B .d) ≡ pos 0 → ⊥) where
+  apart : pos 0 <ℤ size (cross (A .d) (B .d))
+  apart = size-above n
+
   M : Spot
   M = meet A B (sgn (cross (A .d) (B .d))) (size (cross (A .d) (B .d))) (sgn-mul-self (cross (A .d) (B .d))) apart
 
@@ -170,15 +172,12 @@ module _ {R : ℤ} (hR : pos crossingNeed ≤ℤ R) (A B : Piece) (fA : Fit A) (
   unfolding M
   on-B = reached-B A B (sgn (cross (A .d) (B .d))) (size (cross (A .d) (B .d))) (sgn-mul-self (cross (A .d) (B .d))) apart
 
-  small-x : Within 64000000000 (sgn (cross (A .d) (B .d)) *ℤ meetX A B)
-  small-x = w-mul (w-sgn (cross (A .d) (B .d))) (w-sub (w-mul (fA .small-k) (fB .small-d .in-x)) (w-mul (fB .small-k) (fA .small-d .in-x)))
-
-  small-y : Within 64000000000 (sgn (cross (A .d) (B .d)) *ℤ meetY A B)
-  small-y = w-mul (w-sgn (cross (A .d) (B .d))) (w-sub (w-mul (fA .small-k) (fB .small-d .in-y)) (w-mul (fB .small-k) (fA .small-d .in-y)))
+  standard : Standard (meetingPoint A B)
+  standard = meeting-standard A B (fA .way) (fB .way) n
 
   M-in : InSquare R M
   unfolding M meet
-  M-in = near small-x small-y hR
+  M-in = near (standard .in-nx) (standard .in-ny) hR
 
   M-at : Same M (spotAt R (divided (meetingPoint A B)) (divided-above (meetingPoint A B) apart))
   unfolding M meet
@@ -187,21 +186,8 @@ module _ {R : ℤ} (hR : pos crossingNeed ≤ℤ R) (A B : Piece) (fA : Fit A) (
       (standing R (sgn (cross (A .d) (B .d)) *ℤ meetX A B) (sgn (cross (A .d) (B .d)) *ℤ meetY A B) (size (cross (A .d) (B .d))) apart)
       (divided-spot (meetingPoint A B) apart R)
 
-  -- "Standard: .. w at most 32,000,000, nx and ny within 64,000,000,000"
   meeting-point : APoint (divided (meetingPoint A B))
-  meeting-point = a-standard (standard-divided raw) (divided-one (meetingPoint A B) apart)
-    where
-      raw : Standard (meetingPoint A B)
-      raw = record {
-        no-mx = refl;
-        no-my = refl;
-        in-w = record {
-          above = apart;
-          at-most = w-size (w-sub (w-mul (fA .small-d .in-x) (fB .small-d .in-y)) (w-mul (fA .small-d .in-y) (fB .small-d .in-x)));
-        };
-        in-nx = small-x;
-        in-ny = small-y;
-      }
+  meeting-point = a-standard (standard-divided standard) (divided-one (meetingPoint A B) apart)
 
   M-only : (S : Spot) → Both (Part R A) (Part R B) S → Same S M
   unfolding M
@@ -250,11 +236,6 @@ on-one A B fB par S f g =
 
 -- ---- all
 
-size-above : (z : ℤ) → (z ≡ pos 0 → ⊥) → pos 0 <ℤ size z
-size-above (pos zero) n = absurd (n refl)
-size-above (pos (suc k)) n = pp-pos k
-size-above (negsuc k) n = pp-pos k
-
 pub pieces-says : {R : ℤ} → pos crossingNeed ≤ℤ R → (A B : Piece) → Fit A → Fit B → Says R (Both (Part R A) (Part R B)) (pieces A B)
 unfolding pieces
 pieces-says {R} hR A B fA fB =
@@ -269,4 +250,4 @@ pieces-says {R} hR A B fA fB =
           (λ ρ v. simp (reading, v 0, v 1, v 2, v 3, v 4, v 5, val-pos ρ) (solve _ _ _ tt)));
     }))
     (λ u. says-none (λ S s. eqZ-false u (on-one A B fB par S (s .first .on) (s .second .on)))))
-    (λ t. skew-says hR A B fA fB (size-above (cross (A .d) (B .d)) (eqZ-false t)))
+    (λ t. skew-says hR A B fA fB (eqZ-false t))

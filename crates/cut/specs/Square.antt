@@ -3,23 +3,23 @@
 --   Inner, inner-small       a given place strictly inside
 --   larger-square, off-side  in a smaller square: in the larger one too, and on no side of it
 --   segment-small            a segment is as far inside as its ends
---   length-pq, small-d       the direction of a proper pair
+--   length-pq                the direction of a proper pair
 --   unit, out-within, Turned   the sides' ways out; m follows n
-use mathlib.Core.Path.{_≡_, refl, sym, subst}
+use mathlib.Core.Path.{_≡_, refl, subst}
 use mathlib.Core.List.{List, [], _∷_}
 use Prim.Native.Nat.{ℕ}
 use lib.IntN.{ℤ-discrete, ℤ, pos, negsuc, negℤ, _+ℤ_, _-ℤ_, _*ℤ_}
 use lib.Signed.{_≤ℤ_, _<ℤ_, ≤ℤ-refl, clashℤ}
 use Rattle.whole.specs.Ring.{Expr, var, con, _⊕_, _⊖_, _⊗_, ring}
 use Rattle.whole.specs.Reify.{reify, reading, solve, val-pos, val-negsuc}
-use Rattle.whole.specs.Laws.{eq-of-sub}
 use Rattle.whole.specs.Order.{le-cert, lt-cert, le-nn, lt-pp, nn-add, nn-mul, nn-pos, nn-sq, pp-add, pp-mul, pp-nn, ≤-trans, ≤-<-trans}
 use Rattle.whole.specs.SignLaws.{Signs, signs, minus, nought, plus, neg-pp}
 use Rattle.whole.specs.Linear.{lt-one}
-use Rattle.whole.specs.Bound.{Within, w-sub, w-pos, w-negsuc, w-lit, w-upper, w-lower}
+use Rattle.whole.specs.Bound.{Within, w-pos, w-negsuc, w-lit, w-upper, w-lower}
 use Rattle.whole.specs.Cert.{nn-eq, le-by}
 use Rattle.sheet.specs.Figure.{Vec, _⇀_, Side, left, bottom, right, top, outX, outY, segment}
 use Rattle.sheet.specs.RefusalLaws.{Small, Proper}
+use Rattle.sheet.specs.EndsLaws.{proper-way}
 use Rattle.cut.specs.Place.{Spot, fixed}
 use Rattle.cut.specs.Cut.{OnLine, Upto, out, InSquare, OnSide, On, on-segment}
 use Rattle.cut.specs.Line.{size²}
@@ -104,15 +104,8 @@ length² d n = go (ℤ-discrete (d .x) (pos 0))
         (reify (d .x ∷ d .y ∷ []) (λ ρ v. simp (reading, v 0, v 1, val-pos ρ) (solve _ _ _ tt)))
     go (no h) = pp-add (pp-sq (d .x) h) (nn-sq (d .y))
 
-module _ {p q : Vec} (a : Proper p q) where
-  pub length-pq : pos 0 <ℤ size² (p ⇀ q)
-  length-pq = length² (p ⇀ q) (λ e f. a .differ (sym (eq-of-sub (q .x) (p .x) e)) (sym (eq-of-sub (q .y) (p .y) f)))
-
-  pub small-d : Small 4000 (p ⇀ q)
-  small-d = record {
-    in-x = w-sub (a .small-q .in-x) (a .small-p .in-x);
-    in-y = w-sub (a .small-q .in-y) (a .small-p .in-y);
-  }
+pub length-pq : {p q : Vec} → Proper p q → pos 0 <ℤ size² (p ⇀ q)
+length-pq {p} {q} a = length² (p ⇀ q) (proper-way a .moves)
 
 -- ---- a segment is as far inside as its ends
 
