@@ -8,6 +8,7 @@ use Prim.Native.Nat.{ℕ, _+_, _*_}
 use lib.Dec.{T, leb}
 use lib.IntN.{ℤ, pos, negℤ, _+ℤ_, _-ℤ_, _*ℤ_}
 use lib.Signed.{_<ℤ_}
+use Rattle.whole.specs.Laws.{sub-self}
 use Rattle.whole.specs.Ring.{var, con, _⊕_, _⊗_, ring}
 use Rattle.whole.specs.Reify.{reify, reading, solve, val-pos}
 use Rattle.whole.specs.Sign.{sgn}
@@ -91,12 +92,9 @@ module _ (R m n w m′ n′ w′ : ℤ) where
     coordinate-same a b e =
         let z =
         first-zero (sgn (m *ℤ w′ +ℤ pos 0 -ℤ (m′ *ℤ w +ℤ pos 0))) (sgn (n *ℤ w′ +ℤ pos 0 -ℤ (n′ *ℤ w +ℤ pos 0)))
-        (coordinate-at a b ∙ ap sgn (none ((m *ℤ R +ℤ n) *ℤ w′) ((m′ *ℤ R +ℤ n′) *ℤ w) e) ∙ sgn-zero) in
+        (coordinate-at a b ∙ ap sgn (ap (λ (x : ℤ). x -ℤ (m′ *ℤ R +ℤ n′) *ℤ w) e ∙ sub-self ((m′ *ℤ R +ℤ n′) *ℤ w)) ∙ sgn-zero) in
         (ratio m m′ (zero-of-sgn (z .0)), ratio n n′ (zero-of-sgn (z .1)))
       where
-        none : (a b : ℤ) → a ≡ b → a -ℤ b ≡ pos 0
-        none a b e = eq-cert _ (z-eq (pos 1) e) (reify (a ∷ b ∷ []) (λ ρ v. simp (reading, v 0, v 1, val-pos ρ) (solve _ _ _ tt)))
-
         ratio : (x y : ℤ) → x *ℤ w′ +ℤ pos 0 -ℤ (y *ℤ w +ℤ pos 0) ≡ pos 0 → w′ *ℤ x ≡ w *ℤ y
         ratio x y z =
             eq-cert _ z (reify (x ∷ y ∷ w ∷ w′ ∷ []) (λ ρ v. simp (reading, v 0, v 1, v 2, v 3, val-pos ρ) (solve _ _ _ tt)))

@@ -1,6 +1,6 @@
 -- Order at R is the ordinary order of the places, for every R above 512,000,000,000,000. To cite:
 --   order-at    order of two points: x first, then y, of their places
-use mathlib.Core.Path.{_≡_, sym, ap₂, subst}
+use mathlib.Core.Path.{_≡_, refl, sym, ap₂, subst}
 use mathlib.Core.List.{[], _∷_}
 use lib.IntN.{ℤ, pos, _-ℤ_, _*ℤ_}
 use lib.Signed.{_<ℤ_}
@@ -27,15 +27,12 @@ apart a b = a .num *ℤ b .den -ℤ b .num *ℤ a .den
 is-less : (x y : ℤ) → (x -ℤ y) <ℤ pos 0 → x <ℤ y
 is-less x y h = lt-cert _ (lt-pp h) (reify (x ∷ y ∷ []) (λ ρ v. simp (reading, v 0, v 1, val-pos ρ) (solve _ _ _ tt)))
 
-is-more : (x y : ℤ) → pos 0 <ℤ (x -ℤ y) → y <ℤ x
-is-more x y h = lt-cert _ (lt-pp h) (reify (x ∷ y ∷ []) (λ ρ v. simp (reading, v 0, v 1, val-pos ρ) (solve _ _ _ tt)))
-
 module _ (a b : Fraction) where
   less : apart a b <ℤ pos 0 → Less a b
   less h = record { less = is-less (a .num *ℤ b .den) (b .num *ℤ a .den) h }
 
   more : pos 0 <ℤ apart a b → Less b a
-  more h = record { less = is-more (a .num *ℤ b .den) (b .num *ℤ a .den) h }
+  more h = record { less = lt-cert _ h refl }
 
   equal : apart a b ≡ pos 0 → Equal a b
   equal e = record { equal = eq-of-sub (a .num *ℤ b .den) (b .num *ℤ a .den) e }

@@ -5,7 +5,7 @@
 use mathlib.Core.Path.{_≡_, sym, _∙_, ap}
 use mathlib.Core.List.{List, [], _∷_}
 use Prim.Native.Nat.{ℕ}
-use lib.IntN.{ℤ, pos, negsuc, negℤ, _+ℤ_, _-ℤ_, _*ℤ_}
+use lib.IntN.{ℤ, pos, negsuc, negℤ, _+ℤ_, _*ℤ_}
 use lib.Signed.{_<ℤ_}
 use Rattle.whole.specs.Ring.{var, con, ⊝_, _⊕_, _⊗_, ring}
 use Rattle.whole.specs.Reify.{reify, reading, solve}
@@ -26,9 +26,12 @@ use Rattle.sheet.specs.RefusalLaws.{Small, Proper, Drawn, draw-segment, draw-ra
 use Rattle.sheet.specs.PointsLaws.{Narrow, APoint, point-sizes}
 use Rattle.sheet.specs.Ends.{begins, nextSide}
 use Rattle.sheet.specs.Signs.{turnPoly, turn, sideOfFigure}
+use Rattle.sheet.specs.EndsLaws.{begins-fine}
+use Rattle.sheet.specs.Expansions.{det}
 use Rattle.cut.specs.Bounds.{sideNeed, turnNeed}
 use Rattle.cut.specs.Place.{Place, SamePlace, put, at}
 use Rattle.cut.specs.Ordinary.{difference, determinant, signOf, beginAt, tail, tip}
+use Rattle.cut.specs.Same.{given-spot}
 use Rattle.cut.specs.Coordinate.{value-two, value-one}
 
 -- ---- the determinant of places
@@ -46,12 +49,7 @@ determinant-same p q s =
     (product-equal (difference-equal (q .same-across) (p .same-across)) (difference-equal (s .same-up) (p .same-up)))
     (product-equal (difference-equal (s .same-across) (p .same-across)) (difference-equal (q .same-up) (p .same-up))))
 
--- "w1(X2 Y3 - X3 Y2) - w2(X1 Y3 - X3 Y1) + w3(X1 Y2 - X2 Y1)"
-abbrev det : ℤ → ℤ → ℤ → ℤ → ℤ → ℤ → ℤ → ℤ → ℤ → ℤ
-det w1 x1 y1 w2 x2 y2 w3 x3 y3 =
-    w1 *ℤ (x2 *ℤ y3 -ℤ x3 *ℤ y2) -ℤ w2 *ℤ (x1 *ℤ y3 -ℤ x3 *ℤ y1) +ℤ w3 *ℤ (x1 *ℤ y2 -ℤ x2 *ℤ y1)
-
--- over one denominator each, the determinant of the places is that, times what is above 0
+-- over one denominator each, the determinant of the places is `det`, times what is above 0
 module _ (w1 x1 y1 w2 x2 y2 w3 x3 y3 : ℤ) where
   numerator : (((x2 *ℤ w1 +ℤ negℤ x1 *ℤ w2) *ℤ (y3 *ℤ w1 +ℤ negℤ y1 *ℤ w3)) *ℤ ((w3 *ℤ w1) *ℤ (w2 *ℤ w1))
       +ℤ negℤ ((x3 *ℤ w1 +ℤ negℤ x1 *ℤ w3) *ℤ (y2 *ℤ w1 +ℤ negℤ y1 *ℤ w2)) *ℤ ((w2 *ℤ w1) *ℤ (w3 *ℤ w1)))
@@ -162,15 +160,9 @@ begins-measured right = record { in-mx = w-pos 1; in-nx = w-pos 0; in-my = w-neg
 begins-measured top = record { in-mx = w-pos 1; in-nx = w-pos 0; in-my = w-pos 1; in-ny = w-pos 0; in-w = w-pos 1 }
 
 begins-over : (n : Side) → pos 0 <ℤ begins n .w
-begins-over left = pp-pos 0
-begins-over bottom = pp-pos 0
-begins-over right = pp-pos 0
-begins-over top = pp-pos 0
+begins-over n = begins-fine n .slim .in-w .above
 
 module _ (R : ℤ) where
-  same-whole : (x : ℤ) → x *ℤ pos 1 ≡ (pos 0 *ℤ R +ℤ x) *ℤ pos 1
-  same-whole x = ring (R ∷ x ∷ []) (var 1 ⊗ con (pos 1)) ((con (pos 0) ⊗ var 0 ⊕ var 1) ⊗ con (pos 1)) tt
-
   same-R : R *ℤ pos 1 ≡ (pos 1 *ℤ R +ℤ pos 0) *ℤ pos 1
   same-R = ring (R ∷ []) (var 0 ⊗ con (pos 1)) ((con (pos 1) ⊗ var 0 ⊕ con (pos 0)) ⊗ con (pos 1)) tt
 
@@ -178,7 +170,7 @@ module _ (R : ℤ) where
   same-minus-R = ring (R ∷ []) (⊝ var 0 ⊗ con (pos 1)) ((con (negsuc 0) ⊗ var 0 ⊕ con (pos 0)) ⊗ con (pos 1)) tt
 
   given-place : (a : Vec) → SamePlace (at (a .x) (a .y)) (put R (given a) (pp-pos 0))
-  given-place a = record { same-across = record { equal = same-whole (a .x) }; same-up = record { equal = same-whole (a .y) } }
+  given-place a = let e = given-spot R a in record { same-across = record { equal = e .same-x }; same-up = record { equal = e .same-y } }
 
   begins-place : (n : Side) → SamePlace (beginAt R n) (put R (begins n) (begins-over n))
   begins-place left = record { same-across = record { equal = same-minus-R }; same-up = record { equal = same-R } }
