@@ -4,7 +4,7 @@ use mathlib.Core.Path.{_≡_, refl, subst}
 use mathlib.Core.Logic.{_↔_}
 use mathlib.Core.List.{[], _∷_}
 use mathlib.Core.Bool.{Bool, true, false, cond}
-use lib.IntN.{ℤ, pos, _+ℤ_, _-ℤ_, _*ℤ_}
+use lib.IntN.{ℤ, pos, _+ℤ_, _*ℤ_}
 use lib.Signed.{_≤ℤ_, _<ℤ_, ltZ, clashℤ}
 use Rattle.whole.specs.Reify.{reify, reading, solve, val-pos}
 use Rattle.whole.specs.Order.{lt-cert, pp-pos, <-≤}
@@ -19,7 +19,7 @@ use Rattle.sheet.specs.Crossing.{point, many, Limit, till, Piece, dot, later, s
 use Rattle.cut.specs.Place.{Spot, fixed}
 use Rattle.cut.specs.Cut.{OnLine}
 use Rattle.cut.specs.Same.{same-trans, same-upto-left, given-spot}
-use Rattle.cut.specs.Line.{size², same-upto, upto-refl, upto-trans, online-p, upto-given, given-upto, length-reverse, online-over, other-way, par-sym, par-reverse, dot-comm}
+use Rattle.cut.specs.Line.{size², same-upto, upto-refl, upto-trans, online-p, upto-given, given-upto, online-turn, online-back, length-reverse, online-over, other-way, par-sym, par-reverse, dot-comm}
 use Rattle.cut.specs.Square.{near}
 use Rattle.cut.specs.Pieces.{After, after-free, after-till, Before, before-free, before-till, Between, Part, of-after, of-before, part-same, later-both, sooner-both, between-over, between-turn, turn-between, Marked, marked-free, marked-till, Fit}
 use Rattle.cut.specs.Says.{Both, Says, says-none, says-point, says-many, says-map}
@@ -29,34 +29,26 @@ use Rattle.cut.specs.Says.{Both, Says, says-none, says-point, says-many,
 abbrev part : Vec → Vec → Limit → Limit → Piece
 part p d l h = record { p = p; d = d; start = l; stop = h }
 
--- one step on, one step back
+-- one step on
 abbrev on-by : Vec → Vec → Vec
 on-by d a = record { x = a .x +ℤ d .x; y = a .y +ℤ d .y }
 
-abbrev back-by : Vec → Vec → Vec
-back-by d a = record { x = a .x -ℤ d .x; y = a .y -ℤ d .y }
+online-on : {p d : Vec} (a : Vec) → OnLine p d (fixed a) → OnLine p d (fixed (on-by d a))
+online-on {p} {d} a h = record {
+  online =
+      eq-cert _ (z-eq (pos 1) (h .online))
+      (reify (d .x ∷ d .y ∷ p .x ∷ p .y ∷ a .x ∷ a .y ∷ []) (λ ρ v. simp (reading, v 0, v 1, v 2, v 3, v 4, v 5, val-pos ρ) (solve _ _ _ tt)));
+}
+
+-- and one back
+online-behind : {p d : Vec} (a : Vec) → OnLine p d (fixed a) → OnLine p d (fixed (on-by (reverse d) a))
+online-behind a h = online-back (online-on a (online-turn h))
 
 module _ {R : ℤ} (hR : pos 6000 ≤ℤ R) (p d : Vec) (sp : Small 2000 p) (way : Way (d .x) (d .y) (moment p d)) (len : pos 0 <ℤ size² d) where
-  online-on : (a : Vec) → OnLine p d (fixed a) → OnLine p d (fixed (on-by d a))
-  online-on a h = record {
-    online =
-        eq-cert _ (z-eq (pos 1) (h .online))
-        (reify (d .x ∷ d .y ∷ p .x ∷ p .y ∷ a .x ∷ a .y ∷ [])
-        (λ ρ v. simp (reading, v 0, v 1, v 2, v 3, v 4, v 5, val-pos ρ) (solve _ _ _ tt)));
-  }
-
-  online-behind : (a : Vec) → OnLine p d (fixed a) → OnLine p d (fixed (back-by d a))
-  online-behind a h = record {
-    online =
-        eq-cert _ (z-eq (pos 1) (h .online))
-        (reify (d .x ∷ d .y ∷ p .x ∷ p .y ∷ a .x ∷ a .y ∷ [])
-        (λ ρ v. simp (reading, v 0, v 1, v 2, v 3, v 4, v 5, val-pos ρ) (solve _ _ _ tt)));
-  }
-
   further : (a : Vec) → dot d a <ℤ dot d (on-by d a)
   further a = lt-cert _ len (reify (d .x ∷ d .y ∷ a .x ∷ a .y ∷ []) (λ ρ v. simp (reading, v 0, v 1, v 2, v 3) (solve _ _ _ tt)))
 
-  nearer : (a : Vec) → dot d (back-by d a) <ℤ dot d a
+  nearer : (a : Vec) → dot d (on-by (reverse d) a) <ℤ dot d a
   nearer a = lt-cert _ len (reify (d .x ∷ d .y ∷ a .x ∷ a .y ∷ []) (λ ρ v. simp (reading, v 0, v 1, v 2, v 3) (solve _ _ _ tt)))
 
   wide : {a : Vec} → Small 2000 a → Small 6000 a
@@ -65,7 +57,7 @@ module _ {R : ℤ} (hR : pos 6000 ≤ℤ R) (p d : Vec) (sp : Small 2000 p) (way
   small-on : {a : Vec} → Small 2000 a → Small 6000 (on-by d a)
   small-on s = record { in-x = w-add (s .in-x) (way .in-dx); in-y = w-add (s .in-y) (way .in-dy) }
 
-  small-behind : {a : Vec} → Small 2000 a → Small 6000 (back-by d a)
+  small-behind : {a : Vec} → Small 2000 a → Small 6000 (on-by (reverse d) a)
   small-behind s = record { in-x = w-sub (s .in-x) (way .in-dx); in-y = w-sub (s .in-y) (way .in-dy) }
 
   -- a given place of the part
@@ -82,8 +74,8 @@ module _ {R : ℤ} (hR : pos 6000 ≤ℤ R) (p d : Vec) (sp : Small 2000 p) (way
       two p (on-by d p) (further p) (part-at p (online-p p d) (wide sp) after-free before-free)
       (part-at (on-by d p) (online-on p (online-p p d)) (small-on sp) after-free before-free)
   between-says marked-free (marked-till {a = b} o s) =
-      two (back-by d b) b (nearer b)
-      (part-at (back-by d b) (online-behind b o) (small-behind s) after-free (before-till (upto-given (<-≤ (nearer b)))))
+      two (on-by (reverse d) b) b (nearer b)
+      (part-at (on-by (reverse d) b) (online-behind b o) (small-behind s) after-free (before-till (upto-given (<-≤ (nearer b)))))
       (part-at b o (wide s) after-free (before-till (upto-refl d (fixed b))))
   between-says (marked-till {a = a} o s) marked-free =
       two a (on-by d a) (further a) (part-at a o (wide s) (after-till (upto-refl d (fixed a))) before-free)
