@@ -2,7 +2,7 @@
 --   frame-square     a frame point put at R is in the square
 --   Far              what a far end is at R: w above 0, `Farthest`, and narrow
 --   ahead, behind    the far end of a proper pair, and that of the reversed line
-use mathlib.Core.Path.{_≡_, refl, sym, _∙_, ap, subst}
+use mathlib.Core.Path.{_≡_, sym, _∙_, ap, subst}
 use mathlib.Core.List.{[], _∷_}
 use Prim.Native.Nat.{zero, suc}
 use native.Mathlib.Nat.{le-refl}
@@ -122,49 +122,40 @@ module _ (R s w u z : ℤ) (f : s *ℤ u ≡ w) where
       eq-cert _ (z-add (z-eq b f) (z-eq v h))
       (reify (R ∷ s ∷ w ∷ u ∷ z ∷ v ∷ a ∷ b ∷ []) (λ ρ v. simp (reading, v 0, v 1, v 2, v 3, v 4, v 5, v 6, v 7) (solve _ _ _ tt)))
 
--- the side whose way out is (a, b)
-record Toward (a b : ℤ) : Type 0 where
-  toward : Side
-  by-x : outX toward ≡ a
-  by-y : outY toward ≡ b
-
-toward-x : (v : ℤ) → pos 0 <ℤ size v → Toward (sgn v) (pos 0)
-unfolding sgn
-toward-x (pos zero) h = absurd (h .lt)
-toward-x (pos (suc n)) h = record { toward = right; by-x = refl; by-y = refl }
-toward-x (negsuc n) h = record { toward = left; by-x = refl; by-y = refl }
-
-toward-y : (v : ℤ) → pos 0 <ℤ size v → Toward (pos 0) (sgn v)
-unfolding sgn
-toward-y (pos zero) h = absurd (h .lt)
-toward-y (pos (suc n)) h = record { toward = top; by-x = refl; by-y = refl }
-toward-y (negsuc n) h = record { toward = bottom; by-x = refl; by-y = refl }
-
--- the way out of (x, y) over it
-out-by : {a b : ℤ} (t : Toward a b) (x y : ℤ) → outX (t .toward) *ℤ x +ℤ outY (t .toward) *ℤ y ≡ a *ℤ x +ℤ b *ℤ y
-out-by {a} {b} t x y =
-    eq-cert _ (z-add (z-eq x (t .by-x)) (z-eq y (t .by-y)))
-    (reify (outX (t .toward) ∷ outY (t .toward) ∷ a ∷ b ∷ x ∷ y ∷ []) (λ ρ v. simp (reading, v 0, v 1, v 2, v 3, v 4, v 5) (solve _ _ _ tt)))
-
 drop-y : (s x y : ℤ) → s *ℤ x +ℤ pos 0 *ℤ y ≡ s *ℤ x
 drop-y s x y = ring (s ∷ x ∷ y ∷ []) (var 0 ⊗ var 1 ⊕ con (pos 0) ⊗ var 2) (var 0 ⊗ var 1) tt
 
 drop-x : (s x y : ℤ) → pos 0 *ℤ x +ℤ s *ℤ y ≡ s *ℤ y
 drop-x s x y = ring (s ∷ x ∷ y ∷ []) (con (pos 0) ⊗ var 1 ⊕ var 0 ⊗ var 2) (var 0 ⊗ var 2) tt
 
+-- a side over which the way out of (x, y) is f x y
+record Toward (f : ℤ → ℤ → ℤ) : Type 0 where
+  toward : Side
+  out-by : (x y : ℤ) → outX toward *ℤ x +ℤ outY toward *ℤ y ≡ f x y
+
+toward-x : (v : ℤ) → pos 0 <ℤ size v → Toward (λ (x y : ℤ). sgn v *ℤ x)
+unfolding sgn
+toward-x (pos zero) h = absurd (h .lt)
+toward-x (pos (suc n)) h = record { toward = right; out-by = drop-y (pos 1) }
+toward-x (negsuc n) h = record { toward = left; out-by = drop-y (negsuc 0) }
+
+toward-y : (v : ℤ) → pos 0 <ℤ size v → Toward (λ (x y : ℤ). sgn v *ℤ y)
+unfolding sgn
+toward-y (pos zero) h = absurd (h .lt)
+toward-y (pos (suc n)) h = record { toward = top; out-by = drop-x (pos 1) }
+toward-y (negsuc n) h = record { toward = bottom; out-by = drop-x (negsuc 0) }
+
 module _ (R : ℤ) (p d : Vec) (inn : Inner R p) where
   flat-far : (hw : pos 0 <ℤ size (d .x)) → InSquare R (spotAt R (flat (d .x) (d .y) (moment p d)) hw)
       → Farthest R p d (spotAt R (flat (d .x) (d .y) (moment p d)) hw)
   flat-far hw i =
       let t = toward-x (d .x) hw in
-      let s = sgn (d .x) in
       let f = sgn-mul-self (d .x) in
-      let z = outX (t .toward) *ℤ p .x +ℤ outY (t .toward) *ℤ p .y in
-      let ez : z ≡ s *ℤ p .x = out-by t (p .x) (p .y) ∙ drop-y s (p .x) (p .y) in
+      let z = t .out-by (p .x) (p .y) in
       farthest-by R p d (t .toward) (spotAt R (flat (d .x) (d .y) (moment p d)) hw) inn
-      (out-by t (d .x) (d .y) ∙ drop-y s (d .x) (d .y) ∙ f)
-      (on-edge R s (size (d .x)) (d .x) z f (p .x) (sgn-abs (d .x)) ez)
-      (off-edge R s (size (d .x)) (d .x) z f (d .y) (p .x) (p .y) ez) i
+      (t .out-by (d .x) (d .y) ∙ f)
+      (on-edge R (sgn (d .x)) (size (d .x)) (d .x) _ f (p .x) (sgn-abs (d .x)) z)
+      (off-edge R (sgn (d .x)) (size (d .x)) (d .x) _ f (d .y) (p .x) (p .y) z) i
 
   steep-far : (hw : pos 0 <ℤ size (d .y)) → InSquare R (spotAt R (steep (d .x) (d .y) (moment p d)) hw)
       → Farthest R p d (spotAt R (steep (d .x) (d .y) (moment p d)) hw)
@@ -172,12 +163,11 @@ module _ (R : ℤ) (p d : Vec) (inn : Inner R p) where
       let t = toward-y (d .y) hw in
       let s = sgn (d .y) in
       let f = sgn-mul-self (d .y) in
-      let z = outX (t .toward) *ℤ p .x +ℤ outY (t .toward) *ℤ p .y in
-      let ez : z ≡ s *ℤ p .y = out-by t (p .x) (p .y) ∙ drop-x s (p .x) (p .y) in
+      let z = t .out-by (p .x) (p .y) in
       farthest-by R p d (t .toward) (spotAt R (steep (d .x) (d .y) (moment p d)) hw) inn
-      (out-by t (d .x) (d .y) ∙ drop-x s (d .x) (d .y) ∙ f)
-      (turned (d .x *ℤ R) s (d .x) (d .y) (p .x) (p .y) ∙ off-edge R s (size (d .y)) (d .y) z f (d .x) (p .y) (p .x) ez)
-      (on-edge R s (size (d .y)) (d .y) z f (p .y) (sgn-abs (d .y)) ez) i
+      (t .out-by (d .x) (d .y) ∙ f)
+      (turned (d .x *ℤ R) s (d .x) (d .y) (p .x) (p .y) ∙ off-edge R s (size (d .y)) (d .y) _ f (d .x) (p .y) (p .x) z)
+      (on-edge R s (size (d .y)) (d .y) _ f (p .y) (sgn-abs (d .y)) z) i
     where
       turned : (r s dx dy a b : ℤ) → r +ℤ negℤ (s *ℤ (dx *ℤ b -ℤ dy *ℤ a)) ≡ r +ℤ s *ℤ (dy *ℤ a -ℤ dx *ℤ b)
       turned r s dx dy a b =
@@ -192,28 +182,22 @@ pub record Far (R : ℤ) (p d : Vec) (e : Point) : Type 0 where
 
 module _ {R : ℤ} (hR : pos endsNeed ≤ℤ R) where
   module _ (p d : Vec) (inn : Inner R p) (way : Way (d .x) (d .y) (moment p d)) where
-    flat-raw : Frame (flat (d .x) (d .y) (moment p d)) → Far R p d (flat (d .x) (d .y) (moment p d))
-    flat-raw f = record {
-      over = f .slim .in-w .above;
-      farthest = flat-far R p d inn (f .slim .in-w .above) (frame-square hR f);
-      slim = f .slim;
-    }
-
-    steep-raw : Frame (steep (d .x) (d .y) (moment p d)) → Far R p d (steep (d .x) (d .y) (moment p d))
-    steep-raw f = record {
-      over = f .slim .in-w .above;
-      farthest = steep-far R p d inn (f .slim .in-w .above) (frame-square hR f);
-      slim = f .slim;
-    }
-
     raw : Far R p d (farRaw (d .x) (d .y) (moment p d))
-    raw = go (ends.far (d .x) (d .y) (moment p d)) (far-frame (d .x) (d .y) (moment p d) way)
+    raw = go (ends.far (d .x) (d .y) (moment p d))
       where
-        go : ends.Far (d .x) (d .y) (moment p d) → Frame (farRaw (d .x) (d .y) (moment p d)) → Far R p d (farRaw (d .x) (d .y) (moment p d))
-        go (ends.flatter l e) f = subst (Far R p d) (sym e) (flat-raw (subst Frame e f))
-        go (ends.steeper l e) f = subst (Far R p d) (sym e) (steep-raw (subst Frame e f))
-        go (ends.tie-flat z t e) f = subst (Far R p d) (sym e) (flat-raw (subst Frame e f))
-        go (ends.tie-steep z t e) f = subst (Far R p d) (sym e) (steep-raw (subst Frame e f))
+        -- of the form e
+        by : {e : Point} → ((h : pos 0 <ℤ e .w) → InSquare R (spotAt R e h) → Farthest R p d (spotAt R e h))
+            → farRaw (d .x) (d .y) (moment p d) ≡ e → Far R p d (farRaw (d .x) (d .y) (moment p d))
+        by is q =
+            let f = subst Frame q (far-frame (d .x) (d .y) (moment p d) way) in
+            let over = f .slim .in-w .above in
+            subst (Far R p d) (sym q) (record { over = over; farthest = is over (frame-square hR f); slim = f .slim })
+
+        go : ends.Far (d .x) (d .y) (moment p d) → Far R p d (farRaw (d .x) (d .y) (moment p d))
+        go (ends.flatter l e) = by (flat-far R p d inn) e
+        go (ends.steeper l e) = by (steep-far R p d inn) e
+        go (ends.tie-flat z t e) = by (flat-far R p d inn) e
+        go (ends.tie-steep z t e) = by (steep-far R p d inn) e
 
     far : Far R p d (farEnd p d)
     unfolding farEnd
