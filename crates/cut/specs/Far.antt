@@ -8,9 +8,9 @@ use Prim.Native.Nat.{zero, suc}
 use native.Mathlib.Nat.{le-refl}
 use lib.IntN.{ℤ, pos, negsuc, negℤ, natAbs, _+ℤ_, _-ℤ_, _*ℤ_, *ℤ-zero}
 use lib.Signed.{_≤ℤ_, _<ℤ_, ltZ-yes, clashℤ}
-use Rattle.whole.specs.Ring.{var, con, ⊝_, _⊕_, _⊗_, ring}
+use Rattle.whole.specs.Ring.{var, con, _⊕_, _⊗_, ring}
 use Rattle.whole.specs.Reify.{reify, reading, solve, val-pos, val-negsuc}
-use Rattle.whole.specs.Laws.{one-mul}
+use Rattle.whole.specs.Laws.{one-mul, minus-one-mul}
 use Rattle.whole.specs.Order.{le-cert, le-nn, nn-add, nn-mul, nn-pos, pp-nn, ≤-trans, <-≤-trans, ≤-of}
 use Rattle.whole.specs.Sign.{sgn}
 use Rattle.whole.specs.SignLaws.{Signs, signs, minus, nought, plus, sgn-abs, sgn-mul-self}
@@ -39,9 +39,6 @@ record Held (R w m n : ℤ) : Type 0 where
   lower : pos 0 ≤ℤ (R *ℤ w +ℤ (m *ℤ R +ℤ n))
 
 module _ (R w m n : ℤ) (R0 : pos 0 ≤ℤ R) (hw : pos 0 <ℤ w) (nu : n ≤ℤ R) (nl : negℤ R ≤ℤ n) where
-  neg-one : (v : ℤ) → negsuc 0 *ℤ v ≡ negℤ v
-  neg-one v = ring (v ∷ []) (con (negsuc 0) ⊗ var 0) (⊝ var 0) tt
-
   -- |m| = w, and n pulls back
   full : size m ≡ w → (sgn m *ℤ n) ≤ℤ pos 0 → Signs m → Held R w m n
   full e tie (nought z s) = clashℤ hw (≤-of (sym e ∙ ap size z))
@@ -57,8 +54,8 @@ module _ (R w m n : ℤ) (R0 : pos 0 ≤ℤ R) (hw : pos 0 <ℤ w) (nu : n ≤�
             (reify (R ∷ w ∷ m ∷ n ∷ []) (λ ρ e. simp (reading, e 0, e 1, e 2, e 3, val-pos ρ, val-negsuc ρ) (solve _ _ _ tt)));
       }
   full e tie (minus h s) =
-      let mw : negℤ m ≡ w = sym (neg-one m) ∙ ap (λ (x : ℤ). x *ℤ m) (sym s) ∙ sgn-mul-self m ∙ e in
-      let n0 : negℤ n ≤ℤ pos 0 = subst (λ (x : ℤ). x ≤ℤ pos 0) (ap (λ (x : ℤ). x *ℤ n) s ∙ neg-one n) tie in
+      let mw : negℤ m ≡ w = sym (minus-one-mul m) ∙ ap (λ (x : ℤ). x *ℤ m) (sym s) ∙ sgn-mul-self m ∙ e in
+      let n0 : negℤ n ≤ℤ pos 0 = subst (λ (x : ℤ). x ≤ℤ pos 0) (ap (λ (x : ℤ). x *ℤ n) s ∙ minus-one-mul n) tie in
       record {
         upper =
             le-cert _ (nn-add (nn-add (nn-add (nn-mul (pp-nn hw) R0) (nn-mul (lt-one hw) R0)) (le-nn nu)) (nn-eq R mw))

@@ -17,7 +17,7 @@ use native.Mathlib.Nat.{le-of-dvd, pos-of-dvd-of-pos}
 use native.Mathlib.Omega.{arith}
 use lib.IntN.{ℤ, pos, negsuc, negℤ, natAbs, _-ℤ_, _*ℤ_, *ℤ-zero, negℤ-negℤ}
 use lib.Signed.{_≤ℤ_, _<ℤ_, clashℤ}
-use Rattle.whole.specs.Laws.{one-mul, neg-mul, mul-neg, eq-of-sub}
+use Rattle.whole.specs.Laws.{one-mul, minus-one-mul, mul-neg, eq-of-sub}
 use Rattle.whole.specs.Reify.{reify, reading, solve, val-pos}
 use Rattle.whole.specs.Order.{Tri, tri, less, same, more, nn-pos, pp-pos, le-or-lt, le-cert, pp-nn, ≤-trans, ≤-<-trans, ≤-of, <-≤}
 use Rattle.whole.specs.Sign.{sgn}
@@ -71,7 +71,7 @@ tie-square m n w e hw t = go (signs n) (signs m)
     go (minus hn en) (plus hm em) = beside e (en ∙ sym (ap negℤ em))
     go (minus hn en) (nought z em) = absurd (still z)
     go (minus hn en) (minus hm em) =
-        clashℤ (neg-pp hn) (≤-trans (≤-of (sym (neg-mul (pos 1) n ∙ ap negℤ (one-mul n)))) (times em))
+        clashℤ (neg-pp hn) (≤-trans (≤-of (sym (minus-one-mul n))) (times em))
 
 -- the way of a line, and how far it passes the origin
 pub record Way (dx dy k : ℤ) : Type 0 where

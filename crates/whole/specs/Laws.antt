@@ -1,5 +1,5 @@
 -- The laws of a commutative ring that lib.IntN does not have. To cite:
---   mul-assoc, mul-distl, mul-distr, mul-one, one-mul   products
+--   mul-assoc, mul-distl, mul-distr, mul-one, one-mul, minus-one-mul   products
 --   neg-mul, mul-neg, neg-unique                        opposites
 --   eq-of-sub, sub-self                                 a difference of 0
 --   add-.., mul-left-comm, mul-cross                    other groupings
@@ -79,6 +79,9 @@ mul-one a = *ℤ-one a
 
 pub one-mul : (a : ℤ) → pos 1 *ℤ a ≡ a
 one-mul a = *ℤ-comm (pos 1) a ∙ mul-one a
+
+pub minus-one-mul : (a : ℤ) → negsuc 0 *ℤ a ≡ negℤ a
+minus-one-mul a = neg-mul (pos 1) a ∙ ap negℤ (one-mul a)
 
 -- a - b = 0 says a = b
 pub eq-of-sub : (a b : ℤ) → a -ℤ b ≡ pos zero → a ≡ b

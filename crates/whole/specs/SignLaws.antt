@@ -4,6 +4,7 @@
 --   pos-of-sgn, neg-of-sgn, zero-of-sgn   the order from the sign
 --   sgn-neg-eq, sgn-mul, sgn-mul-pos      of an opposite, of a product
 --   sgn-sgn, sgn-abs, sgn-mul-self        a sign's sign; sgn z |z| = z; sgn z z = |z|
+--   neg-pp                                z < 0 is 0 < - z
 --   nn-size, neg-size, size-above         |z| where z is 0 or more, and below 0; it is above 0 where z is not 0
 -- Assumes nothing.
 use mathlib.Core.Path.{_≡_, refl, sym, _∙_, ap}
@@ -12,7 +13,7 @@ use Prim.Native.Nat.{ℕ, zero, suc}
 use native.Mathlib.Omega.{arith}
 use lib.IntN.{ℤ, pos, negsuc, negℤ, natAbs, _*ℤ_, negℤ-negℤ, zero-*ℤ, *ℤ-zero, pos-ne-negsuc}
 use lib.Signed.{_≤ℤ_, _<ℤ_}
-use Rattle.whole.specs.Laws.{neg-mul, mul-one, one-mul}
+use Rattle.whole.specs.Laws.{neg-mul, mul-one, one-mul, minus-one-mul}
 use Rattle.whole.specs.Ring.{var, lit, _⊗_, ⊝_, ring}
 use Rattle.whole.specs.Order.{nn-dest, pp-dest, pp-mul, pp-pos, <-neg, Tri, tri, less, same, more}
 use Rattle.whole.specs.Sign.{sgn}
@@ -107,22 +108,19 @@ pub sgn-mul-self : (z : ℤ) → sgn z *ℤ z ≡ pos (natAbs z)
 unfolding sgn
 sgn-mul-self (pos zero) = refl
 sgn-mul-self (pos (suc n)) = one-mul (pos (suc n))
-sgn-mul-self (negsuc n) = neg-mul (pos 1) (negsuc n) ∙ ap negℤ (one-mul (negsuc n))
+sgn-mul-self (negsuc n) = minus-one-mul (negsuc n)
 
 pub sgn-abs : (z : ℤ) → sgn z *ℤ pos (natAbs z) ≡ z
 unfolding sgn
 sgn-abs (pos zero) = refl
 sgn-abs (pos (suc n)) = one-mul (pos (suc n))
-sgn-abs (negsuc n) = neg-mul (pos 1) (pos (suc n)) ∙ ap negℤ (one-mul (pos (suc n)))
+sgn-abs (negsuc n) = minus-one-mul (pos (suc n))
 
 pub nn-size : {z : ℤ} → pos 0 ≤ℤ z → z ≡ pos (natAbs z)
 nn-size h = let n = nn-dest h in n .1 ∙ ap (λ (x : ℤ). pos (natAbs x)) (sym (n .1))
 
 pub neg-size : {z : ℤ} → z <ℤ pos 0 → negℤ z ≡ pos (natAbs z)
-neg-size {z} h = sym (negsgn (sgn-neg h)) ∙ sgn-mul-self z
-  where
-    negsgn : sgn z ≡ negsuc 0 → sgn z *ℤ z ≡ negℤ z
-    negsgn e = ap (λ (s : ℤ). s *ℤ z) e ∙ neg-mul (pos 1) z ∙ ap negℤ (one-mul z)
+neg-size {z} h = sym (ap (λ (s : ℤ). s *ℤ z) (sgn-neg h) ∙ minus-one-mul z) ∙ sgn-mul-self z
 
 pub size-above : {z : ℤ} → (z ≡ pos 0 → ⊥) → pos 0 <ℤ pos (natAbs z)
 size-above {z = pos zero} n = absurd (n refl)
