@@ -1,7 +1,8 @@
 -- The far end at R is the farthest place of its line in the square, for every R of 8,000,000 or more. To cite:
 --   frame-square     a frame point put at R is in the square
---   Far              what a far end is at R: w above 0, `Farthest`, and narrow
+--   Far              what a far end is at R: w above 0, `Farthest`, and a narrow point
 --   ahead, behind    the far end of a proper pair, and that of the reversed line
+--   ray-end, line-end, line-start   they are on the ray and on the line, cut at the square
 use mathlib.Core.Path.{_≡_, sym, _∙_, ap, subst}
 use mathlib.Core.List.{[], _∷_}
 use Prim.Native.Nat.{zero, suc}
@@ -18,17 +19,18 @@ use Rattle.whole.specs.Linear.{lt-one}
 use Rattle.whole.specs.Bound.{Within, w-upper, w-lower}
 use Rattle.whole.specs.Cert.{z-eq, z-add, nn-eq, eq-cert}
 use Rattle.sheet.specs.declared.Point.{Point}
-use Rattle.sheet.specs.Figure.{Vec, _⇀_, Side, left, bottom, right, top, outX, outY}
-use Rattle.sheet.specs.Points.{size, divided}
+use Rattle.sheet.specs.Figure.{Vec, _⇀_, Side, left, bottom, right, top, outX, outY, ray, line}
+use Rattle.sheet.specs.Points.{size}
 use Rattle.sheet.specs.Ends.{moment, flat, steep, farRaw, farEnd, reverse}
 use Rattle.sheet.specs.RefusalLaws.{Proper}
 use Rattle.sheet.specs.PointsLaws as points
-use Rattle.sheet.specs.PointsLaws.{Narrow, Frame, narrow-divided, divided-above}
+use Rattle.sheet.specs.PointsLaws.{Frame, divided-above}
 use Rattle.sheet.specs.EndsLaws as ends
-use Rattle.sheet.specs.EndsLaws.{Way, far-frame, proper-way, reverse-way}
+use Rattle.sheet.specs.EndsLaws.{Way, far-frame, Fine, far-end-fine, proper-way, reverse-way}
 use Rattle.cut.specs.Bounds.{endsNeed}
-use Rattle.cut.specs.Cut.{InSquare}
+use Rattle.cut.specs.Cut.{InSquare, On, on-ray, on-line}
 use Rattle.cut.specs.Same.{spotAt, divided-spot}
+use Rattle.cut.specs.Line.{online-back}
 use Rattle.cut.specs.Square.{square-by, Inner, inner-small}
 use Rattle.cut.specs.Farthest.{Farthest, farthest-by, farthest-move}
 
@@ -142,9 +144,12 @@ toward-y (pos zero) h = absurd (h .lt)
 toward-y (pos (suc n)) h = record { toward = top; out-by = drop-x (pos 1) }
 toward-y (negsuc n) h = record { toward = bottom; out-by = drop-x (negsuc 0) }
 
+-- e is that place of the line of p and d, if it is in the square at all
+abbrev Last : ℤ → Vec → Vec → Point → Type 0
+Last R p d e = (h : pos 0 <ℤ e .w) → InSquare R (spotAt R e h) → Farthest R p d (spotAt R e h)
+
 module _ (R : ℤ) (p d : Vec) (inn : Inner R p) where
-  flat-far : (hw : pos 0 <ℤ size (d .x)) → InSquare R (spotAt R (flat (d .x) (d .y) (moment p d)) hw)
-      → Farthest R p d (spotAt R (flat (d .x) (d .y) (moment p d)) hw)
+  flat-far : Last R p d (flat (d .x) (d .y) (moment p d))
   flat-far hw i =
       let t = toward-x (d .x) hw in
       let f = sgn-mul-self (d .x) in
@@ -154,8 +159,7 @@ module _ (R : ℤ) (p d : Vec) (inn : Inner R p) where
       (on-edge R (sgn (d .x)) (size (d .x)) (d .x) _ f (p .x) (sgn-abs (d .x)) z)
       (off-edge R (sgn (d .x)) (size (d .x)) (d .x) _ f (d .y) (p .x) (p .y) z) i
 
-  steep-far : (hw : pos 0 <ℤ size (d .y)) → InSquare R (spotAt R (steep (d .x) (d .y) (moment p d)) hw)
-      → Farthest R p d (spotAt R (steep (d .x) (d .y) (moment p d)) hw)
+  steep-far : Last R p d (steep (d .x) (d .y) (moment p d))
   steep-far hw i =
       let t = toward-y (d .y) hw in
       let s = sgn (d .y) in
@@ -170,42 +174,34 @@ module _ (R : ℤ) (p d : Vec) (inn : Inner R p) where
       turned r s dx dy a b =
           reify (r ∷ s ∷ dx ∷ dy ∷ a ∷ b ∷ []) (λ ρ v. simp (reading, v 0, v 1, v 2, v 3, v 4, v 5) (solve _ _ _ tt))
 
+  raw-far : Last R p d (farRaw (d .x) (d .y) (moment p d))
+  raw-far = go (ends.far (d .x) (d .y) (moment p d))
+    where
+      go : ends.Far (d .x) (d .y) (moment p d) → Last R p d (farRaw (d .x) (d .y) (moment p d))
+      go (ends.flatter l e) = subst (Last R p d) (sym e) flat-far
+      go (ends.steeper l e) = subst (Last R p d) (sym e) steep-far
+      go (ends.tie-flat z t e) = subst (Last R p d) (sym e) flat-far
+      go (ends.tie-steep z t e) = subst (Last R p d) (sym e) steep-far
+
 -- ---- the end
 
 pub record Far (R : ℤ) (p d : Vec) (e : Point) : Type 0 where
   pub over : pos 0 <ℤ e .w
   pub farthest : Farthest R p d (spotAt R e over)
-  pub slim : Narrow e
+  pub fine : Fine e
 
 module _ {R : ℤ} (hR : pos endsNeed ≤ℤ R) where
-  module _ (p d : Vec) (inn : Inner R p) (way : Way (d .x) (d .y) (moment p d)) where
-    raw : Far R p d (farRaw (d .x) (d .y) (moment p d))
-    raw = go (ends.far (d .x) (d .y) (moment p d))
-      where
-        -- of the form e
-        by : {e : Point} → ((h : pos 0 <ℤ e .w) → InSquare R (spotAt R e h) → Farthest R p d (spotAt R e h))
-            → farRaw (d .x) (d .y) (moment p d) ≡ e → Far R p d (farRaw (d .x) (d .y) (moment p d))
-        by is q =
-            let f = subst Frame q (far-frame (d .x) (d .y) (moment p d) way) in
-            let over = f .slim .in-w .above in
-            subst (Far R p d) (sym q) (record { over = over; farthest = is over (frame-square hR f); slim = f .slim })
-
-        go : ends.Far (d .x) (d .y) (moment p d) → Far R p d (farRaw (d .x) (d .y) (moment p d))
-        go (ends.flatter l e) = by (flat-far R p d inn) e
-        go (ends.steeper l e) = by (steep-far R p d inn) e
-        go (ends.tie-flat z t e) = by (flat-far R p d inn) e
-        go (ends.tie-steep z t e) = by (steep-far R p d inn) e
-
-    far : Far R p d (farEnd p d)
-    unfolding farEnd
-    far = out (farRaw (d .x) (d .y) (moment p d)) raw
-      where
-        out : (e : Point) → Far R p d e → Far R p d (divided e)
-        out e f = record {
-          over = divided-above e (f .over);
-          farthest = farthest-move (divided-spot e (f .over) R) (f .farthest);
-          slim = narrow-divided (f .slim);
-        }
+  far : (p d : Vec) → Inner R p → Way (d .x) (d .y) (moment p d) → Far R p d (farEnd p d)
+  unfolding farEnd
+  far p d inn way =
+      let e = farRaw (d .x) (d .y) (moment p d) in
+      let f = far-frame (d .x) (d .y) (moment p d) way in
+      let h = f .slim .in-w .above in
+      record {
+        over = divided-above e h;
+        farthest = farthest-move (divided-spot e h R) (raw-far R p d inn h (frame-square hR f));
+        fine = far-end-fine p d way;
+      }
 
   module _ {p q : Vec} (a : Proper p q) where
     pub inner-p : Inner R p
@@ -216,3 +212,14 @@ module _ {R : ℤ} (hR : pos endsNeed ≤ℤ R) where
 
     pub behind : Far R p (reverse (p ⇀ q)) (farEnd p (reverse (p ⇀ q)))
     behind = far p (reverse (p ⇀ q)) inner-p (reverse-way p (p ⇀ q) (proper-way a))
+
+    pub ray-end : On R (ray p q) (spotAt R (farEnd p (p ⇀ q)) (ahead .over))
+    ray-end =
+        let f = ahead .farthest in
+        on-ray (record { of-line = record { on = f .on; cut = f .on-side .in-square }; from-p = f .ahead })
+
+    pub line-end : On R (line p q) (spotAt R (farEnd p (p ⇀ q)) (ahead .over))
+    line-end = let f = ahead .farthest in on-line (record { on = f .on; cut = f .on-side .in-square })
+
+    pub line-start : On R (line p q) (spotAt R (farEnd p (reverse (p ⇀ q))) (behind .over))
+    line-start = let f = behind .farthest in on-line (record { on = online-back (f .on); cut = f .on-side .in-square })

@@ -3,7 +3,7 @@
 use mathlib.Core.Path.{_≡_, sym, _∙_}
 use mathlib.Core.Logic.{_↔_, _⊎_, inl, inr}
 use mathlib.Core.List.{[], _∷_}
-use mathlib.Core.Bool.{true, false, true≢false}
+use mathlib.Core.Bool.{true, true≢false}
 use lib.IntN.{ℤ, pos, _+ℤ_, _-ℤ_, _*ℤ_}
 use lib.Signed.{_≤ℤ_, _<ℤ_, ltZ-yes, leZ-yes, ≤ℤ-refl, clashℤ}
 use Rattle.whole.specs.Reify.{reify, reading, solve, val-pos}
@@ -17,29 +17,27 @@ use Rattle.sheet.specs.declared.Point.{Point}
 use Rattle.sheet.specs.Figure.{Vec, _⇀_, Side, outX, outY, segment, ray, line, side}
 use Rattle.sheet.specs.Ends.{farEnd, reverse}
 use Rattle.sheet.specs.RefusalLaws.{Proper}
-use Rattle.sheet.specs.EndsLaws.{Fine, far-end-fine, proper-way, reverse-way}
 use Rattle.sheet.specs.Flags.{both}
-use Rattle.sheet.specs.Crossing.{none, point, onSide, endOn}
+use Rattle.sheet.specs.Crossing.{Meeting, none, onSide, endOn}
 use Rattle.cut.specs.Bounds.{endsNeed, touchNeed}
 use Rattle.cut.specs.Place.{Spot, fixed}
-use Rattle.cut.specs.Cut.{OnLine, along, Upto, OnSide, On, on-ray, on-line, on-side}
+use Rattle.cut.specs.Cut.{OnLine, along, Upto, OnSide, On, on-side}
 use Rattle.cut.specs.Same.{Same, side-same, spotAt, of-ray, of-line, of-side}
-use Rattle.cut.specs.Line.{size², online-turn, online-back, upto-turn, length-reverse}
+use Rattle.cut.specs.Line.{size², online-turn, upto-turn, length-reverse}
 use Rattle.cut.specs.Square.{Inner, off-side, segment-small, length-pq, out-within}
 use Rattle.cut.specs.Farthest.{farthest-same, leads-out}
-use Rattle.cut.specs.Far.{Far, ahead, behind, inner-p}
+use Rattle.cut.specs.Far.{Far, ahead, behind, inner-p, ray-end, line-end, line-start}
 use Rattle.cut.specs.Says.{Both, Says, says-none, says-point}
 
 -- ---- one end against a side
 
 module _ {R : ℤ} (hR : pos touchNeed <ℤ R) {p d : Vec} {e : Point} (len : pos 0 <ℤ size² d) (inn : Inner R p)
     (f : Far R p d e) (n : Side) where
-  E : Spot
+  abbrev E : Spot
   E = spotAt R e (f .over)
 
   -- out by R exactly, at this R: so for every R
   end-test : (onSide n e ≡ true) ↔ OnSide R n E
-  unfolding E
   end-test = (to, from)
     where
       b : (onSide n e ≡ true)
@@ -63,7 +61,7 @@ module _ {R : ℤ} (hR : pos touchNeed <ℤ R) {p d : Vec} {e : Point} (len : po
           let w = out-within n in
           let z =
           two-zero (outX n *ℤ e .mx +ℤ outY n *ℤ e .my -ℤ e .w) (outX n *ℤ e .nx +ℤ outY n *ℤ e .ny) R
-          (small (w-add (w-mul (w .0) (f .slim .in-nx)) (w-mul (w .1) (f .slim .in-ny))) hR)
+          (small (w-add (w-mul (w .0) (f .fine .slim .in-nx)) (w-mul (w .1) (f .fine .slim .in-ny))) hR)
           (eq-cert _ (z-eq (pos 1) (o .edge))
           (reify (outX n ∷ outY n ∷ e .mx ∷ e .nx ∷ e .my ∷ e .ny ∷ e .w ∷ R ∷ [])
           (λ ρ v. simp (reading, v 0, v 1, v 2, v 3, v 4, v 5, v 6, v 7, val-pos ρ) (solve _ _ _ tt)))) in
@@ -71,12 +69,20 @@ module _ {R : ℤ} (hR : pos touchNeed <ℤ R) {p d : Vec} {e : Point} (len : po
 
   -- a place on the side, ahead of p: the end
   end-only : {S : Spot} → OnLine p d S → Upto d (fixed p) S → OnSide R n S → Same S E
-  unfolding E
   end-only o u s = farthest-same len inn (record { on = o; ahead = u; over = n; on-side = s }) (f .farthest)
 
   end-out : OnSide R n E → pos 0 <ℤ (outX n *ℤ d .x +ℤ outY n *ℤ d .y)
-  unfolding E
   end-out s = leads-out len inn (record { on = f .farthest .on; ahead = f .farthest .ahead; over = n; on-side = s })
+
+  -- the end is asked first: it is what the side shares with F, or it is not, and m is the answer
+  end-says : {F : Spot → Type 0} {m : Meeting} → F E → (OnSide R n E → (S : Spot) → OnSide R n S → F S → Same S E)
+      → ((OnSide R n E → ⊥) → Says R (Both (On R (side n)) F) m) → Says R (Both (On R (side n)) F) (endOn n e m)
+  end-says {F} on only otherwise =
+      cond-by (Says R (Both (On R (side n)) F)) (onSide n e)
+      (λ t.
+      let s = end-test .0 t in
+      says-point (f .over) (f .fine .point) (record { first = on-side s; second = on }) (λ S b. only s S (of-side (b .first)) (b .second)))
+      (λ t. otherwise (λ s. true≢false (sym (end-test .1 s) ∙ t)))
 
 -- ---- the three kinds
 
@@ -84,113 +90,66 @@ module _ {R : ℤ} (hR : pos touchNeed <ℤ R) {p q : Vec} (a : Proper p q) (n :
   hL : pos endsNeed ≤ℤ R
   hL = ≤-trans (leZ-yes tt) (<-≤ hR)
 
-  fore : Far R p (p ⇀ q) (farEnd p (p ⇀ q))
-  fore = ahead hL a
+  pub segment-says : Says R (Both (On R (side n)) (On R (segment p q))) none
+  segment-says = says-none (λ S b. off-side (<-≤-trans (ltZ-yes tt) hL) (segment-small a (b .second)) (of-side (b .first)))
 
-  aft : Far R p (reverse (p ⇀ q)) (farEnd p (reverse (p ⇀ q)))
-  aft = behind hL a
+  abbrev foreE : Spot
+  foreE = spotAt R (farEnd p (p ⇀ q)) (ahead hL a .over)
 
-  fore-fine : Fine (farEnd p (p ⇀ q))
-  fore-fine = far-end-fine p (p ⇀ q) (proper-way a)
+  fore-only : {S : Spot} → OnLine p (p ⇀ q) S → Upto (p ⇀ q) (fixed p) S → OnSide R n S → Same S foreE
+  fore-only = end-only hR (length-pq a) (inner-p hL a) (ahead hL a) n
 
-  aft-fine : Fine (farEnd p (reverse (p ⇀ q)))
-  aft-fine = far-end-fine p (reverse (p ⇀ q)) (reverse-way p (p ⇀ q) (proper-way a))
+  pub ray-says : Says R (Both (On R (side n)) (On R (ray p q))) (endOn n (farEnd p (p ⇀ q)) none)
+  ray-says =
+      end-says hR (length-pq a) (inner-p hL a) (ahead hL a) n (ray-end hL a) (λ s S. at)
+      (λ f. says-none (λ S b. f (side-same (at (of-side (b .first)) (b .second)) (of-side (b .first)))))
+    where
+      at : {S : Spot} → OnSide R n S → On R (ray p q) S → Same S foreE
+      at o r = fore-only (of-ray r .of-line .on) (of-ray r .from-p) o
+
+  -- ---- a line has the other end too
 
   back : pos 0 <ℤ size² (reverse (p ⇀ q))
   back = length-reverse (p ⇀ q) (length-pq a)
 
-  foreE : Spot
-  foreE = spotAt R (farEnd p (p ⇀ q)) (fore .over)
-
-  aftE : Spot
-  aftE = spotAt R (farEnd p (reverse (p ⇀ q))) (aft .over)
-
-  fore-test : (onSide n (farEnd p (p ⇀ q)) ≡ true) ↔ OnSide R n foreE
-  unfolding foreE E
-  fore-test = end-test hR (length-pq a) (inner-p hL a) fore n
-
-  aft-test : (onSide n (farEnd p (reverse (p ⇀ q))) ≡ true) ↔ OnSide R n aftE
-  unfolding aftE E
-  aft-test = end-test hR back (inner-p hL a) aft n
-
-  fore-only : {S : Spot} → OnLine p (p ⇀ q) S → Upto (p ⇀ q) (fixed p) S → OnSide R n S → Same S foreE
-  unfolding foreE E
-  fore-only o u s = end-only hR (length-pq a) (inner-p hL a) fore n o u s
+  abbrev aftE : Spot
+  aftE = spotAt R (farEnd p (reverse (p ⇀ q))) (behind hL a .over)
 
   aft-only : {S : Spot} → OnLine p (p ⇀ q) S → Upto (p ⇀ q) S (fixed p) → OnSide R n S → Same S aftE
-  unfolding aftE E
-  aft-only o u s = end-only hR back (inner-p hL a) aft n (online-turn o) (upto-turn u) s
+  aft-only o u = end-only hR back (inner-p hL a) (behind hL a) n (online-turn o) (upto-turn u)
 
   -- not both ends: the direction and its reverse do not both lead out
   not-both : OnSide R n foreE → OnSide R n aftE → ⊥
-  unfolding foreE aftE E
   not-both s t =
       clashℤ {a = pos 0} {b = pos 0}
-      (lt-cert _ (pp-add (end-out hR (length-pq a) (inner-p hL a) fore n s) (pp-nn (end-out hR back (inner-p hL a) aft n t)))
+      (lt-cert _
+      (pp-add (end-out hR (length-pq a) (inner-p hL a) (ahead hL a) n s) (pp-nn (end-out hR back (inner-p hL a) (behind hL a) n t)))
       (reify (p .x ∷ p .y ∷ q .x ∷ q .y ∷ outX n ∷ outY n ∷ [])
       (λ ρ v. simp (reading, v 0, v 1, v 2, v 3, v 4, v 5, val-pos ρ) (solve _ _ _ tt))))
       (≤ℤ-refl (pos 0))
 
-  pub segment-says : Says R (Both (On R (side n)) (On R (segment p q))) none
-  segment-says = says-none (λ S b. off-side (<-≤-trans (ltZ-yes tt) hL) (segment-small a (b .second)) (of-side (b .first)))
-
-  pub ray-says : Says R (Both (On R (side n)) (On R (ray p q))) (endOn n (farEnd p (p ⇀ q)) none)
-  unfolding foreE
-  ray-says =
-      cond-by (Says R (Both (On R (side n)) (On R (ray p q)))) (onSide n (farEnd p (p ⇀ q)))
-      (λ t.
-      says-point (fore .over) (fore-fine .point)
-      (record {
-        first = on-side (fore-test .0 t);
-        second = on-ray (record {
-          of-line = record { on = fore .farthest .on; cut = fore .farthest .on-side .in-square };
-          from-p = fore .farthest .ahead;
-        });
-      })
-      (λ S b. is b))
-      (λ f. says-none (λ S b. true≢false (sym (fore-test .1 (side-same (is b) (of-side (b .first)))) ∙ f)))
+  which : (S : Spot) → OnSide R n S → On R (line p q) S → Same S foreE ⊎ Same S aftE
+  which S o l = pick (le-or-lt (along (p ⇀ q) (fixed p) *ℤ S .W) (along (p ⇀ q) S *ℤ pos 1))
     where
-      is : {S : Spot} → Both (On R (side n)) (On R (ray p q)) S → Same S foreE
-      is b = let r = of-ray (b .second) in fore-only (r .of-line .on) (r .from-p) (of-side (b .first))
+      pick : ((along (p ⇀ q) (fixed p) *ℤ S .W) ≤ℤ (along (p ⇀ q) S *ℤ pos 1))
+          ⊎ ((along (p ⇀ q) S *ℤ pos 1) <ℤ (along (p ⇀ q) (fixed p) *ℤ S .W))
+          → Same S foreE ⊎ Same S aftE
+      pick (inl h) = inl (fore-only (of-line l .on) (record { upto = h }) o)
+      pick (inr h) = inr (aft-only (of-line l .on) (record { upto = <-≤ h }) o)
 
   pub line-says : Says R (Both (On R (side n)) (On R (line p q))) (endOn n (farEnd p (p ⇀ q)) (endOn n (farEnd p (reverse (p ⇀ q))) none))
-  unfolding foreE aftE
   line-says =
-      cond-by (Says R (Both (On R (side n)) (On R (line p q)))) (onSide n (farEnd p (p ⇀ q)))
-      (λ t.
-      says-point (fore .over) (fore-fine .point)
-      (record {
-        first = on-side (fore-test .0 t);
-        second = on-line (record { on = fore .farthest .on; cut = fore .farthest .on-side .in-square });
-      })
-      (λ S b. at-fore (fore-test .0 t) b (is b)))
-      (λ f. cond-by (Says R (Both (On R (side n)) (On R (line p q)))) (onSide n (farEnd p (reverse (p ⇀ q))))
-      (λ t.
-      says-point (aft .over) (aft-fine .point)
-      (record {
-        first = on-side (aft-test .0 t);
-        second = on-line (record { on = online-back (aft .farthest .on); cut = aft .farthest .on-side .in-square });
-      })
-      (λ S b. at-aft (no-fore f) b (is b)))
+      end-says hR (length-pq a) (inner-p hL a) (ahead hL a) n (line-end hL a) (λ s S o l. at-fore s o (which S o l))
+      (λ f.
+      end-says hR back (inner-p hL a) (behind hL a) n (line-start hL a) (λ s S o l. at-aft f o (which S o l))
       (λ g. says-none (λ S b.
-      true≢false (sym (aft-test .1 (side-same (at-aft (no-fore f) b (is b)) (of-side (b .first)))) ∙ g))))
+      let o = of-side (b .first) in
+      g (side-same (at-aft f o (which S o (b .second))) o))))
     where
-      is : {S : Spot} → Both (On R (side n)) (On R (line p q)) S → Same S foreE ⊎ Same S aftE
-      is {S} b = pick (le-or-lt (along (p ⇀ q) (fixed p) *ℤ S .W) (along (p ⇀ q) S *ℤ pos 1))
-        where
-          pick : ((along (p ⇀ q) (fixed p) *ℤ S .W) ≤ℤ (along (p ⇀ q) S *ℤ pos 1))
-              ⊎ ((along (p ⇀ q) S *ℤ pos 1) <ℤ (along (p ⇀ q) (fixed p) *ℤ S .W))
-              → Same S foreE ⊎ Same S aftE
-          pick (inl h) = inl (fore-only (of-line (b .second) .on) (record { upto = h }) (of-side (b .first)))
-          pick (inr h) = inr (aft-only (of-line (b .second) .on) (record { upto = <-≤ h }) (of-side (b .first)))
+      at-fore : OnSide R n foreE → {S : Spot} → OnSide R n S → Same S foreE ⊎ Same S aftE → Same S foreE
+      at-fore s o (inl e) = e
+      at-fore s o (inr e) = absurd (not-both s (side-same e o))
 
-      no-fore : onSide n (farEnd p (p ⇀ q)) ≡ false → OnSide R n foreE → ⊥
-      no-fore f s = true≢false (sym (fore-test .1 s) ∙ f)
-
-      at-fore : OnSide R n foreE → {S : Spot} → Both (On R (side n)) (On R (line p q)) S → Same S foreE ⊎ Same S aftE → Same S foreE
-      at-fore s b (inl e) = e
-      at-fore s b (inr e) = absurd (not-both s (side-same e (of-side (b .first))))
-
-      at-aft : (OnSide R n foreE → ⊥) → {S : Spot} → Both (On R (side n)) (On R (line p q)) S → Same S foreE ⊎ Same S aftE → Same S aftE
-      at-aft f b (inl e) = absurd (f (side-same e (of-side (b .first))))
-      at-aft f b (inr e) = e
+      at-aft : (OnSide R n foreE → ⊥) → {S : Spot} → OnSide R n S → Same S foreE ⊎ Same S aftE → Same S aftE
+      at-aft f o (inl e) = absurd (f (side-same e o))
+      at-aft f o (inr e) = e
