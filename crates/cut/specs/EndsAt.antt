@@ -18,7 +18,7 @@ use Rattle.cut.specs.Place.{Spot, fixed}
 use Rattle.cut.specs.Cut.{Upto, InSquare, OnSide, On, on-segment, on-ray, on-side}
 use Rattle.cut.specs.Ordinary.{way}
 use Rattle.cut.specs.Same.{spotAt, given-spot, on-same, upto-same, same-upto-left, of-segment, of-ray, of-line, of-side}
-use Rattle.cut.specs.Line.{upto-refl, online-p, online-q, upto-pq, online-turn, upto-back, length-reverse}
+use Rattle.cut.specs.Line.{upto-refl, online-p, segment-p, segment-q, online-turn, upto-back, length-reverse}
 use Rattle.cut.specs.Square.{square-by, near, length-pq, unit, Turned}
 use Rattle.cut.specs.Farthest.{farthest-last}
 use Rattle.cut.specs.Far.{ahead, behind, inner-p, ray-end, line-end, line-start}
@@ -130,18 +130,8 @@ pub ends-at : {R : ℤ} → pos endsNeed ≤ℤ R → {f : Figure} → Drawn f �
 ends-at {R} hR (draw-segment {p = p} {q = q} a) = record {
   first-over = pp-pos 0;
   last-over = pp-pos 0;
-  first-on =
-      on-same (given-spot R p) (on-segment (record {
-        on = online-p p (p ⇀ q);
-        not-before-p = upto-refl (p ⇀ q) (fixed p);
-        not-beyond-q = upto-pq p q;
-      }));
-  last-on =
-      on-same (given-spot R q) (on-segment (record {
-        on = online-q p q;
-        not-before-p = upto-pq p q;
-        not-beyond-q = upto-refl (p ⇀ q) (fixed q);
-      }));
+  first-on = on-same (given-spot R p) (on-segment (segment-p p q));
+  last-on = on-same (given-spot R q) (on-segment (segment-q p q));
   not-before = λ S s. same-upto-left (given-spot R p) (of-segment s .not-before-p);
   not-beyond = λ S s. upto-same (given-spot R q) (of-segment s .not-beyond-q);
 }

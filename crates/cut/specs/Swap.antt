@@ -16,7 +16,7 @@ use Rattle.cut.specs.Bounds.{smallBound}
 use Rattle.cut.specs.Place.{Place, put, fixed}
 use Rattle.cut.specs.Cut.{InSquare, On, on-segment, on-ray, on-line, Shared}
 use Rattle.cut.specs.Claims.{Answered}
-use Rattle.cut.specs.Line.{upto-refl, online-p, online-q, upto-pq}
+use Rattle.cut.specs.Line.{upto-refl, online-p, online-q, upto-pq, segment-p, segment-q}
 use Rattle.cut.specs.Square.{near}
 use Rattle.cut.specs.Says.{Both, Says, says-many}
 use Rattle.cut.specs.SidesMeet.{same-says}
@@ -70,9 +70,7 @@ inside s = near (s .in-x) (s .in-y) (leZ-yes tt)
 
 self-says : {f : Figure} → Drawn f → Says smallBound (Both (On smallBound f) (On smallBound f)) many
 self-says (draw-side {n = n}) = same-says (ltZ-yes tt) n
-self-says (draw-segment {p = p} {q = q} a) =
-    two a (on-segment (record { on = online-p p (p ⇀ q); not-before-p = upto-refl (p ⇀ q) (fixed p); not-beyond-q = upto-pq p q }))
-    (on-segment (record { on = online-q p q; not-before-p = upto-pq p q; not-beyond-q = upto-refl (p ⇀ q) (fixed q) }))
+self-says (draw-segment {p = p} {q = q} a) = two a (on-segment (segment-p p q)) (on-segment (segment-q p q))
 self-says (draw-line {p = p} {q = q} a) =
     two a (on-line (record { on = online-p p (p ⇀ q); cut = inside (a .small-p) }))
     (on-line (record { on = online-q p q; cut = inside (a .small-q) }))
