@@ -2,7 +2,8 @@
 --   Same, same-sym, same-trans          two spots are one place
 --   same-place, same-spot               as `SamePlace` of the places
 --   placeOf, place-spot                 a spot as a place
---   spotAt, put-spot, given-spot        the place of a point at R over its own denominator; of a given point
+--   spotAt, put-spot                    the place of a point at R over its own denominator
+--   standing, given-spot                that of a standard point is the same for every R; of a given point
 --   divided-spot                        the place stays when the common divisor goes out
 --   online-same, upto-same, same-upto-left, square-same, side-same, on-same   what holds of a spot holds of the same spot
 --   of-segment, of-ray, of-line, of-side   what it is to be on a figure of each kind
@@ -99,11 +100,16 @@ place-spot S = record { same-x = twice (S .X) (S .W); same-y = twice (S .Y) (S .
 pub put-spot : (R : ℤ) (e : Point) (h : pos 0 <ℤ e .w) → Same (spotAt R e h) (spot (put R e h))
 put-spot R e h = place-spot (spotAt R e h)
 
-pub given-spot : (R : ℤ) (a : Vec) → Same (fixed a) (spotAt R (given a) (pp-pos 0))
-given-spot R a = record { same-x = go (a .x); same-y = go (a .y) }
+-- whole numbers over w: the same for every R
+pub standing : (R x y w : ℤ) (h : pos 0 <ℤ w)
+    → Same (record { X = x; Y = y; W = w; above = h }) (spotAt R (record { mx = pos 0; nx = x; my = pos 0; ny = y; w = w }) h)
+standing R x y w h = record { same-x = go x; same-y = go y }
   where
-    go : (x : ℤ) → x *ℤ pos 1 ≡ (pos 0 *ℤ R +ℤ x) *ℤ pos 1
-    go x = ring (R ∷ x ∷ []) (var 1 ⊗ con (pos 1)) ((con (pos 0) ⊗ var 0 ⊕ var 1) ⊗ con (pos 1)) tt
+    go : (z : ℤ) → z *ℤ w ≡ (pos 0 *ℤ R +ℤ z) *ℤ w
+    go z = ring (R ∷ z ∷ w ∷ []) (var 1 ⊗ var 2) ((con (pos 0) ⊗ var 0 ⊕ var 1) ⊗ var 2) tt
+
+pub given-spot : (R : ℤ) (a : Vec) → Same (fixed a) (spotAt R (given a) (pp-pos 0))
+given-spot R a = standing R (a .x) (a .y) (pos 1) (pp-pos 0)
 
 pub divided-spot : (e : Point) (h : pos 0 <ℤ e .w) (R : ℤ) → Same (spotAt R e h) (spotAt R (divided e) (divided-above e h))
 divided-spot e h R =

@@ -2,11 +2,10 @@
 --   pieces-says   for every R of 64,000,000,000 or more
 use mathlib.Core.Path.{_≡_, refl, sym, _∙_}
 use mathlib.Core.Logic.{_↔_}
-use mathlib.Core.List.{[], _∷_}
+use mathlib.Core.List.{List, [], _∷_}
 use mathlib.Core.Bool.{Bool, true, _&&_, true≢false}
 use lib.IntN.{ℤ, pos, negsuc, negℤ, _+ℤ_, _-ℤ_, _*ℤ_}
 use lib.Signed.{_≤ℤ_, _<ℤ_, leZ-yes}
-use Rattle.whole.specs.Ring.{var, con, _⊕_, _⊗_, ring}
 use Rattle.whole.specs.Reify.{reify, reading, solve, val-pos, val-negsuc}
 use Rattle.whole.specs.Laws.{eq-of-sub}
 use Rattle.whole.specs.Order.{le-cert, le-nn, nn-add, nn-mul, pp-nn, ≤-trans}
@@ -24,7 +23,7 @@ use Rattle.sheet.specs.CrossingLaws.{meeting-standard}
 use Rattle.cut.specs.Bounds.{crossingNeed}
 use Rattle.cut.specs.Place.{Spot}
 use Rattle.cut.specs.Cut.{OnLine, along, InSquare}
-use Rattle.cut.specs.Same.{Same, same-trans, spotAt, divided-spot}
+use Rattle.cut.specs.Same.{Same, same-trans, spotAt, standing, divided-spot}
 use Rattle.cut.specs.Line.{size², online-p, online-over, par-sym}
 use Rattle.cut.specs.Square.{near}
 use Rattle.cut.specs.Pieces.{After, after-free, after-till, Before, before-free, before-till, Between, Part, of-after, of-before, between-same, part-same, Marks, marks-free, marks-till, Fit}
@@ -97,7 +96,7 @@ reaches-test A f g M m =
 
 -- ---- not parallel: Cramer's rule
 
--- the numerators, and how far along each the place is
+-- the numerators
 abbrev meetX : Piece → Piece → ℤ
 meetX A B = moment (A .p) (A .d) *ℤ B .d .x -ℤ moment (B .p) (B .d) *ℤ A .d .x
 
@@ -109,30 +108,21 @@ module _ (A B : Piece) (s w : ℤ) (e : s *ℤ cross (A .d) (B .d) ≡ w) (hw : 
   meet : Spot
   meet = record { X = s *ℤ meetX A B; Y = s *ℤ meetY A B; W = w; above = hw }
 
+  abbrev ten : List ℤ
+  ten = A .d .x ∷ A .d .y ∷ A .p .x ∷ A .p .y ∷ B .d .x ∷ B .d .y ∷ B .p .x ∷ B .p .y ∷ s ∷ w ∷ []
+
   reached-A : Reached (A .p) (A .d) (s *ℤ cross (A .p ⇀ B .p) (B .d)) meet
   unfolding meet
   reached-A = record {
-    by-x =
-        eq-cert _ (z-eq (A .p .x) e)
-        (reify (A .d .x ∷ A .d .y ∷ A .p .x ∷ A .p .y ∷ B .d .x ∷ B .d .y ∷ B .p .x ∷ B .p .y ∷ s ∷ w ∷ [])
-        (λ ρ v. simp (reading, v 0, v 1, v 2, v 3, v 4, v 5, v 6, v 7, v 8, v 9) (solve _ _ _ tt)));
-    by-y =
-        eq-cert _ (z-eq (A .p .y) e)
-        (reify (A .d .x ∷ A .d .y ∷ A .p .x ∷ A .p .y ∷ B .d .x ∷ B .d .y ∷ B .p .x ∷ B .p .y ∷ s ∷ w ∷ [])
-        (λ ρ v. simp (reading, v 0, v 1, v 2, v 3, v 4, v 5, v 6, v 7, v 8, v 9) (solve _ _ _ tt)));
+    by-x = eq-cert _ (z-eq (A .p .x) e) (reify ten (λ ρ v. simp (reading, v 0, v 1, v 2, v 3, v 4, v 5, v 6, v 7, v 8, v 9) (solve _ _ _ tt)));
+    by-y = eq-cert _ (z-eq (A .p .y) e) (reify ten (λ ρ v. simp (reading, v 0, v 1, v 2, v 3, v 4, v 5, v 6, v 7, v 8, v 9) (solve _ _ _ tt)));
   }
 
   reached-B : Reached (B .p) (B .d) (s *ℤ cross (A .p ⇀ B .p) (A .d)) meet
   unfolding meet
   reached-B = record {
-    by-x =
-        eq-cert _ (z-eq (B .p .x) e)
-        (reify (A .d .x ∷ A .d .y ∷ A .p .x ∷ A .p .y ∷ B .d .x ∷ B .d .y ∷ B .p .x ∷ B .p .y ∷ s ∷ w ∷ [])
-        (λ ρ v. simp (reading, v 0, v 1, v 2, v 3, v 4, v 5, v 6, v 7, v 8, v 9) (solve _ _ _ tt)));
-    by-y =
-        eq-cert _ (z-eq (B .p .y) e)
-        (reify (A .d .x ∷ A .d .y ∷ A .p .x ∷ A .p .y ∷ B .d .x ∷ B .d .y ∷ B .p .x ∷ B .p .y ∷ s ∷ w ∷ [])
-        (λ ρ v. simp (reading, v 0, v 1, v 2, v 3, v 4, v 5, v 6, v 7, v 8, v 9) (solve _ _ _ tt)));
+    by-x = eq-cert _ (z-eq (B .p .x) e) (reify ten (λ ρ v. simp (reading, v 0, v 1, v 2, v 3, v 4, v 5, v 6, v 7, v 8, v 9) (solve _ _ _ tt)));
+    by-y = eq-cert _ (z-eq (B .p .y) e) (reify ten (λ ρ v. simp (reading, v 0, v 1, v 2, v 3, v 4, v 5, v 6, v 7, v 8, v 9) (solve _ _ _ tt)));
   }
 
   -- there is no other
@@ -141,36 +131,38 @@ module _ (A B : Piece) (s w : ℤ) (e : s *ℤ cross (A .d) (B .d) ≡ w) (hw : 
   meet-only S f g = record {
     same-x =
         eq-cert _ (z-add (z-add (z-eq (s *ℤ B .d .x) (f .online)) (z-eq (negℤ (s *ℤ A .d .x)) (g .online))) (z-eq (negℤ (S .X)) e))
-        (reify (A .d .x ∷ A .d .y ∷ A .p .x ∷ A .p .y ∷ B .d .x ∷ B .d .y ∷ B .p .x ∷ B .p .y ∷ S .X ∷ S .Y ∷ S .W ∷ s ∷ w ∷ [])
+        (reify (S .X ∷ S .Y ∷ S .W ∷ ten)
         (λ ρ v. simp (reading, v 0, v 1, v 2, v 3, v 4, v 5, v 6, v 7, v 8, v 9, v 10, v 11, v 12) (solve _ _ _ tt)));
     same-y =
         eq-cert _ (z-add (z-add (z-eq (s *ℤ B .d .y) (f .online)) (z-eq (negℤ (s *ℤ A .d .y)) (g .online))) (z-eq (negℤ (S .Y)) e))
-        (reify (A .d .x ∷ A .d .y ∷ A .p .x ∷ A .p .y ∷ B .d .x ∷ B .d .y ∷ B .p .x ∷ B .p .y ∷ S .X ∷ S .Y ∷ S .W ∷ s ∷ w ∷ [])
+        (reify (S .X ∷ S .Y ∷ S .W ∷ ten)
         (λ ρ v. simp (reading, v 0, v 1, v 2, v 3, v 4, v 5, v 6, v 7, v 8, v 9, v 10, v 11, v 12) (solve _ _ _ tt)));
   }
 
--- whole numbers over w, as a point and as a spot
-standing : (R x y w : ℤ) (h : pos 0 <ℤ w)
-    → Same (record { X = x; Y = y; W = w; above = h }) (spotAt R (record { mx = pos 0; nx = x; my = pos 0; ny = y; w = w }) h)
-standing R x y w h = record { same-x = go x; same-y = go y }
-  where
-    go : (z : ℤ) → z *ℤ w ≡ (pos 0 *ℤ R +ℤ z) *ℤ w
-    go z = ring (R ∷ z ∷ w ∷ []) (var 1 ⊗ var 2) ((con (pos 0) ⊗ var 0 ⊕ var 1) ⊗ var 2) tt
-
 module _ {R : ℤ} (hR : pos crossingNeed ≤ℤ R) (A B : Piece) (fA : Fit A) (fB : Fit B) (n : cross (A .d) (B .d) ≡ pos 0 → ⊥) where
-  apart : pos 0 <ℤ size (cross (A .d) (B .d))
+  abbrev D : ℤ
+  D = cross (A .d) (B .d)
+
+  -- the place is p + (h / w) d on each
+  abbrev hA : ℤ
+  hA = sgn D *ℤ cross (A .p ⇀ B .p) (B .d)
+
+  abbrev hB : ℤ
+  hB = sgn D *ℤ cross (A .p ⇀ B .p) (A .d)
+
+  apart : pos 0 <ℤ size D
   apart = size-above n
 
   M : Spot
-  M = meet A B (sgn (cross (A .d) (B .d))) (size (cross (A .d) (B .d))) (sgn-mul-self (cross (A .d) (B .d))) apart
+  M = meet A B (sgn D) (size D) (sgn-mul-self D) apart
 
-  on-A : Reached (A .p) (A .d) (sgn (cross (A .d) (B .d)) *ℤ cross (A .p ⇀ B .p) (B .d)) M
+  on-A : Reached (A .p) (A .d) hA M
   unfolding M
-  on-A = reached-A A B (sgn (cross (A .d) (B .d))) (size (cross (A .d) (B .d))) (sgn-mul-self (cross (A .d) (B .d))) apart
+  on-A = reached-A A B (sgn D) (size D) (sgn-mul-self D) apart
 
-  on-B : Reached (B .p) (B .d) (sgn (cross (A .d) (B .d)) *ℤ cross (A .p ⇀ B .p) (A .d)) M
+  on-B : Reached (B .p) (B .d) hB M
   unfolding M
-  on-B = reached-B A B (sgn (cross (A .d) (B .d))) (size (cross (A .d) (B .d))) (sgn-mul-self (cross (A .d) (B .d))) apart
+  on-B = reached-B A B (sgn D) (size D) (sgn-mul-self D) apart
 
   standard : Standard (meetingPoint A B)
   standard = meeting-standard A B (fA .way) (fB .way) n
@@ -182,32 +174,24 @@ module _ {R : ℤ} (hR : pos crossingNeed ≤ℤ R) (A B : Piece) (fA : Fit A) (
   M-at : Same M (spotAt R (divided (meetingPoint A B)) (divided-above (meetingPoint A B) apart))
   unfolding M meet
   M-at =
-      same-trans
-      (standing R (sgn (cross (A .d) (B .d)) *ℤ meetX A B) (sgn (cross (A .d) (B .d)) *ℤ meetY A B) (size (cross (A .d) (B .d))) apart)
-      (divided-spot (meetingPoint A B) apart R)
+      same-trans (standing R (sgn D *ℤ meetX A B) (sgn D *ℤ meetY A B) (size D) apart) (divided-spot (meetingPoint A B) apart R)
 
   meeting-point : APoint (divided (meetingPoint A B))
   meeting-point = a-standard (standard-divided standard) (divided-one (meetingPoint A B) apart)
 
   M-only : (S : Spot) → Both (Part R A) (Part R B) S → Same S M
   unfolding M
-  M-only S s =
-      meet-only A B (sgn (cross (A .d) (B .d))) (size (cross (A .d) (B .d))) (sgn-mul-self (cross (A .d) (B .d))) apart S
-      (s .first .on) (s .second .on)
+  M-only S s = meet-only A B (sgn D) (size D) (sgn-mul-self D) apart S (s .first .on) (s .second .on)
 
   test : Bool
-  test =
-      reaches A (sgn (cross (A .d) (B .d)) *ℤ cross (A .p ⇀ B .p) (B .d)) (size (cross (A .d) (B .d)))
-      && reaches B (sgn (cross (A .d) (B .d)) *ℤ cross (A .p ⇀ B .p) (A .d)) (size (cross (A .d) (B .d)))
+  test = reaches A hA (size D) && reaches B hB (size D)
 
   test-is : (test ≡ true) ↔ (Between (A .d) (A .start) (A .stop) M × Between (B .d) (B .start) (B .stop) M)
   unfolding test M meet
   test-is =
-      let b =
-      both (reaches A (sgn (cross (A .d) (B .d)) *ℤ cross (A .p ⇀ B .p) (B .d)) (size (cross (A .d) (B .d))))
-      (reaches B (sgn (cross (A .d) (B .d)) *ℤ cross (A .p ⇀ B .p) (A .d)) (size (cross (A .d) (B .d)))) in
-      let f = reaches-test A fA (sgn (cross (A .d) (B .d)) *ℤ cross (A .p ⇀ B .p) (B .d)) M on-A in
-      let g = reaches-test B fB (sgn (cross (A .d) (B .d)) *ℤ cross (A .p ⇀ B .p) (A .d)) M on-B in
+      let b = both (reaches A hA (size D)) (reaches B hB (size D)) in
+      let f = reaches-test A fA hA M on-A in
+      let g = reaches-test B fB hB M on-B in
       ((λ t. let c = b .0 t in (f .0 (c .0), g .0 (c .1))), (λ c. b .1 (f .1 (c .0), g .1 (c .1))))
 
   skew-says : Says R (Both (Part R A) (Part R B)) (skew A B)
