@@ -4,6 +4,7 @@
 --   turn-by                        the same from other words for the three
 --   sideB, sideC, pair-side-is     the side of a segment, ray or line (all three compute to this turn)
 --   left-side-is, bottom-side-is, right-side-is, top-side-is   the side of each frame side
+--   frame-side-is                  the same in one: by the way out over the side
 --   side-of-figure                 sideSign of an object whose figure is known
 -- Assumes nothing.
 use mathlib.Core.Path.{_≡_, _∙_, ap}
@@ -17,7 +18,7 @@ use Rattle.whole.specs.Poly.{first, leading}
 use Rattle.whole.specs.PolyLaws.{first-zero-right}
 use Rattle.sheet.specs.declared.Object.{Object}
 use Rattle.sheet.specs.declared.Point.{Point}
-use Rattle.sheet.specs.Figure.{Vec, _⇀_, left, bottom, right, top, Figure, side, figure}
+use Rattle.sheet.specs.Figure.{Vec, _⇀_, Side, left, bottom, right, top, outX, outY, Figure, side, figure}
 use Rattle.sheet.specs.Points.{given}
 use Rattle.sheet.specs.Ends.{moment, begins}
 use Rattle.sheet.specs.Signs.{order, turnPoly, turn, sideOfFigure, sideSign}
@@ -183,6 +184,28 @@ module _ (s : Point) where
       (ring ρ (eA rightTop leftTop pointE) ((var 4 ⊖ var 2) ⊗ lit 2) tt)
       (ring ρ (eB rightTop leftTop pointE) (⊝ var 3 ⊗ lit 2) tt)
       (ring ρ (eC rightTop leftTop pointE) (lit 0) tt)
+
+  -- w less the point's way out over the side
+  abbrev awayM : Expr → Expr → Expr
+  awayM a b = var 4 ⊖ (a ⊗ var 0 ⊕ b ⊗ var 2)
+
+  abbrev awayN : Expr → Expr → Expr
+  awayN a b = ⊝ (a ⊗ var 1 ⊕ b ⊗ var 3)
+
+  pub frame-side-is : (n : Side) → sideOfFigure (side n) s
+      ≡ first (sgn (s .w -ℤ (outX n *ℤ s .mx +ℤ outY n *ℤ s .my))) (sgn (negℤ (outX n *ℤ s .nx +ℤ outY n *ℤ s .ny)))
+  frame-side-is left =
+      left-side-is
+      ∙ (λ i. first (sgn (ring ρ (var 0 ⊕ var 4) (awayM (⊝ lit 1) (lit 0)) tt i)) (sgn (ring ρ (var 1) (awayN (⊝ lit 1) (lit 0)) tt i)))
+  frame-side-is bottom =
+      bottom-side-is
+      ∙ (λ i. first (sgn (ring ρ (var 2 ⊕ var 4) (awayM (lit 0) (⊝ lit 1)) tt i)) (sgn (ring ρ (var 3) (awayN (lit 0) (⊝ lit 1)) tt i)))
+  frame-side-is right =
+      right-side-is
+      ∙ (λ i. first (sgn (ring ρ (var 4 ⊖ var 0) (awayM (lit 1) (lit 0)) tt i)) (sgn (ring ρ (⊝ var 1) (awayN (lit 1) (lit 0)) tt i)))
+  frame-side-is top =
+      top-side-is
+      ∙ (λ i. first (sgn (ring ρ (var 4 ⊖ var 2) (awayM (lit 0) (lit 1)) tt i)) (sgn (ring ρ (⊝ var 3) (awayN (lit 0) (lit 1)) tt i)))
 
 -- ---- of an object whose figure is known
 

@@ -10,7 +10,7 @@ use mathlib.Core.Path.{_≡_, sym, _∙_, ap, subst}
 use mathlib.Core.List.{[], _∷_}
 use lib.IntN.{ℤ, pos, negsuc, negℤ, _+ℤ_, _-ℤ_, _*ℤ_, *ℤ-zero, ℤ-discrete}
 use lib.Signed.{_<ℤ_}
-use Rattle.whole.specs.Laws.{mul-assoc}
+use Rattle.whole.specs.Laws.{mul-assoc, sub-self}
 use Rattle.whole.specs.Ring.{var, lit, _⊕_, _⊖_, _⊗_, ⊝_, ring}
 use Rattle.whole.specs.Reify.{reify, reading, solve, val-pos}
 use Rattle.whole.specs.Cert.{z-eq, z-add, eq-cert, zero-cancel}
@@ -18,14 +18,14 @@ use Rattle.whole.specs.Sign.{sgn}
 use Rattle.whole.specs.SignLaws.{sgn-zero, sgn-abs, sgn-mul-self, size-above}
 use Rattle.whole.specs.Poly.{first}
 use Rattle.sheet.specs.declared.Point.{Point}
-use Rattle.sheet.specs.Figure.{Vec, _⇀_, Side, left, bottom, right, top, outX, outY, side}
+use Rattle.sheet.specs.Figure.{Vec, _⇀_, Side, outX, outY, side}
 use Rattle.sheet.specs.Points.{size, given, divided, divisor}
 use Rattle.sheet.specs.Ends.{moment, flat, steep, farRaw, farEnd, reverse}
 use Rattle.sheet.specs.Signs.{turn, sideOfFigure}
 use Rattle.sheet.specs.Crossing.{cross}
 use Rattle.sheet.specs.PointsLaws.{divided-back, divisor-above}
 use Rattle.sheet.specs.EndsLaws.{Far, far, flatter, steeper, tie-flat, tie-steep, Way, far-frame}
-use Rattle.sheet.specs.Expansions.{pair-side-is, left-side-is, bottom-side-is, right-side-is, top-side-is}
+use Rattle.sheet.specs.Expansions.{pair-side-is, frame-side-is}
 
 -- ---- points on a line
 
@@ -212,27 +212,4 @@ cross-turned d f h = eq-cert _ (z-eq (negsuc 0) h) (go (d .x) (d .y) (f .x) (f .
 
 pub on-side-sign : (n : Side) (e : Point) → outX n *ℤ e .mx +ℤ outY n *ℤ e .my ≡ e .w → outX n *ℤ e .nx +ℤ outY n *ℤ e .ny ≡ pos 0
     → sideOfFigure (side n) e ≡ pos 0
-on-side-sign left e h k =
-    left-side-is e
-    ∙ both-zero (eq-cert _ (z-eq (negsuc 0) h)
-    (ring (e .mx ∷ e .my ∷ e .w ∷ []) (var 0 ⊕ var 2 ⊖ lit 0) (⊝ lit 1 ⊗ (⊝ lit 1 ⊗ var 0 ⊕ lit 0 ⊗ var 1 ⊖ var 2)) tt))
-    (eq-cert _ (z-eq (negsuc 0) k)
-    (ring (e .nx ∷ e .ny ∷ []) (var 0 ⊖ lit 0) (⊝ lit 1 ⊗ (⊝ lit 1 ⊗ var 0 ⊕ lit 0 ⊗ var 1 ⊖ lit 0)) tt))
-on-side-sign bottom e h k =
-    bottom-side-is e
-    ∙ both-zero (eq-cert _ (z-eq (negsuc 0) h)
-    (ring (e .mx ∷ e .my ∷ e .w ∷ []) (var 1 ⊕ var 2 ⊖ lit 0) (⊝ lit 1 ⊗ (lit 0 ⊗ var 0 ⊕ ⊝ lit 1 ⊗ var 1 ⊖ var 2)) tt))
-    (eq-cert _ (z-eq (negsuc 0) k)
-    (ring (e .nx ∷ e .ny ∷ []) (var 1 ⊖ lit 0) (⊝ lit 1 ⊗ (lit 0 ⊗ var 0 ⊕ ⊝ lit 1 ⊗ var 1 ⊖ lit 0)) tt))
-on-side-sign right e h k =
-    right-side-is e
-    ∙ both-zero (eq-cert _ (z-eq (negsuc 0) h)
-    (ring (e .mx ∷ e .my ∷ e .w ∷ []) (var 2 ⊖ var 0 ⊖ lit 0) (⊝ lit 1 ⊗ (lit 1 ⊗ var 0 ⊕ lit 0 ⊗ var 1 ⊖ var 2)) tt))
-    (eq-cert _ (z-eq (negsuc 0) k)
-    (ring (e .nx ∷ e .ny ∷ []) (⊝ var 0 ⊖ lit 0) (⊝ lit 1 ⊗ (lit 1 ⊗ var 0 ⊕ lit 0 ⊗ var 1 ⊖ lit 0)) tt))
-on-side-sign top e h k =
-    top-side-is e
-    ∙ both-zero (eq-cert _ (z-eq (negsuc 0) h)
-    (ring (e .mx ∷ e .my ∷ e .w ∷ []) (var 2 ⊖ var 1 ⊖ lit 0) (⊝ lit 1 ⊗ (lit 0 ⊗ var 0 ⊕ lit 1 ⊗ var 1 ⊖ var 2)) tt))
-    (eq-cert _ (z-eq (negsuc 0) k)
-    (ring (e .nx ∷ e .ny ∷ []) (⊝ var 1 ⊖ lit 0) (⊝ lit 1 ⊗ (lit 0 ⊗ var 0 ⊕ lit 1 ⊗ var 1 ⊖ lit 0)) tt))
+on-side-sign n e h k = frame-side-is e n ∙ both-zero (ap (λ (z : ℤ). e .w -ℤ z) h ∙ sub-self (e .w)) (ap negℤ k)
