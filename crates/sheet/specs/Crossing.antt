@@ -1,4 +1,4 @@
--- "Crossing. Objects include their ends. The answer is none, point or many." Two objects that only touch end to end on a line answer point.
+-- Crossing. "Objects include their ends. The answer is none, point or many .. Two that only touch end to end on a line answer point."
 use mathlib.Core.Bool.{Bool, true, cond, _&&_}
 use lib.IntN.{ℤ, pos, _+ℤ_, _-ℤ_, _*ℤ_}
 use lib.Signed.{ltZ, leZ}
@@ -88,7 +88,7 @@ sooner d free l = l
 sooner d (till a) free = till a
 sooner d (till a) (till b) = cond (ltZ (dot d a) (dot d b)) (till a) (till b)
 
--- "none, one given point, or many"
+-- none, one given point, or many
 abbrev pub between : Vec → Limit → Limit → Meeting
 between d free l = many
 between d (till a) free = many
@@ -117,11 +117,11 @@ pieces A B =
 abbrev pub onSide : Side → Point → Bool
 onSide n e = eqZ (outX n *ℤ e .mx +ℤ outY n *ℤ e .my) (e .w) && eqZ (outX n *ℤ e .nx +ℤ outY n *ℤ e .ny) (pos 0)
 
--- "the end that is on it"
+-- the end that is on it
 abbrev pub endOn : Side → Point → Meeting → Meeting
 endOn n e otherwise = cond (onSide n e) (point e) otherwise
 
--- "the same side many, adjacent ones their corner, opposite ones none"
+-- the same side: many; adjacent ones: their corner; opposite ones: none
 abbrev pub outs : Side → Side → ℤ
 outs m n = outX m *ℤ outX n +ℤ outY m *ℤ outY n
 
@@ -130,7 +130,7 @@ sides m n =
     cond (eqZ (outs m n) (pos 0)) (point (corner (outX m +ℤ outX n) (outY m +ℤ outY n)))
     (cond (ltZ (pos 0) (outs m n)) many none)
 
--- "a side with a ray or line, the end that is on it; a side with a segment, none"
+-- a side with a ray or line: the end that is on it; with a segment: none
 unfoldable pub withSide : Side → Figure → Meeting
 unfolding farEnd
 withSide n (segment p q) = none
