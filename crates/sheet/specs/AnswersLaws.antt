@@ -7,7 +7,6 @@
 --   made-one, ends-one, signed-one, crossing-one   no two values of an answer say the same numbers
 -- Assumes nothing.
 use mathlib.Core.Path.{_≡_, refl, sym, _∙_, ap, ap₂}
-use mathlib.Core.Bool.{Bool, true, false, cond}
 use mathlib.Core.List.{List, [], _∷_}
 use Prim.Native.Nat.{ℕ}
 use native.Mathlib.Omega.{arith}
@@ -15,7 +14,7 @@ use lib.IntN.{ℤ, pos}
 use mir.Syntax.{w64}
 use mir.Val.{SFits, ofZ}
 use Rattle.whole.specs.Bound.{fits64, w-pos}
-use Rattle.whole.specs.Tests.{eqZ, eqZ-true, eqZ-false, eq-eqZ, ne-eqZ, eq-taken, eq-left, out, out-is}
+use Rattle.whole.specs.Tests.{cond-by, eqZ, eqZ-true, eqZ-false, eq-eqZ, ne-eqZ, eq-taken, eq-left, out, out-is}
 use Rattle.sheet.specs.declared.Object.{Object}
 use Rattle.sheet.specs.declared.Point.{Point}
 use Rattle.sheet.specs.declared.Made.{Made}
@@ -48,11 +47,8 @@ says-accepted values f e z = sym (accepted values (sym e ∙ eq-taken f (fits64 
 
 -- several checks in turn find nothing
 pub or-zero : (n m : ℤ) → orElse n m ≡ pos 0 → (n ≡ pos 0) × (m ≡ pos 0)
-or-zero n m h = go (eqZ n (pos 0)) (eqZ-true {a = n} {b = pos 0}) (eqZ-false {a = n} {b = pos 0}) h
-  where
-    go : (t : Bool) → (t ≡ true → n ≡ pos 0) → (t ≡ false → n ≡ pos 0 → ⊥) → cond t m n ≡ pos 0 → (n ≡ pos 0) × (m ≡ pos 0)
-    go true f g e = (f refl, e)
-    go false f g e = absurd (g refl e)
+or-zero n m =
+    cond-by (λ (z : ℤ). z ≡ pos 0 → (n ≡ pos 0) × (m ≡ pos 0)) (eqZ n (pos 0)) (λ t e. (eqZ-true t, e)) (λ t e. absurd (eqZ-false t e))
 
 -- of several checks in turn: r, the result for n, is not 0; or it is 0, and what comes after it is left
 pub refused-first : {r n : ℤ} (m : ℤ) → r ≡ n → (ofZ w64 r ≡ 0 → ⊥) → r ≡ orElse n m

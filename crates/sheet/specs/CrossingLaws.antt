@@ -17,7 +17,7 @@ use Rattle.whole.specs.Cert.{z-eq, z-add, eq-cert}
 use Rattle.whole.specs.Sign.{sgn}
 use Rattle.whole.specs.SignLaws.{sgn-mul-self, size-above}
 use Rattle.whole.specs.Bound.{w-sub, w-mul, w-sgn, w-size}
-use Rattle.whole.specs.Tests.{eqZ, eqZ-true, eqZ-false}
+use Rattle.whole.specs.Tests.{cond-by, eqZ, eqZ-true, eqZ-false}
 use Rattle.sheet.specs.declared.Object.{Object}
 use Rattle.sheet.specs.declared.Point.{Point}
 use Rattle.sheet.specs.Figure.{Vec, _⇀_, Side, left, bottom, right, top, outX, outY, Figure, side, figure}
@@ -42,8 +42,7 @@ pub data Good (F G : Point → Type 0) : Meeting → Type 0 where
 
 module _ {F G : Point → Type 0} where
   good-cond : (t : Bool) {m n : Meeting} → (t ≡ true → Good F G m) → (t ≡ false → Good F G n) → Good F G (cond t m n)
-  good-cond true h k = h refl
-  good-cond false h k = k refl
+  good-cond t = cond-by (Good F G) t
 
   good-swap : {m : Meeting} → Good F G m → Good G F m
   good-swap a-none = a-none
@@ -140,8 +139,7 @@ module _ {A B : Piece} (a : Fair A) (b : Fair B) where
         shared s (on-line-given (carried (B .p) (B .d) (A .p) (A .d) c (b .way .moves) (cross-turned (A .d) (B .d) h) back e)) (on-line-given e)
 
     either : (t : Bool) {l m : Limit} → Shared l → Shared m → Shared (cond t l m)
-    either true x y = x
-    either false x y = y
+    either t x y = cond-by Shared t (λ e. x) (λ e. y)
 
     later-shared : (d : Vec) {l m : Limit} → Shared l → Shared m → Shared (later d l m)
     later-shared d unlimited y = y
