@@ -1,5 +1,6 @@
 -- One coordinate of two points, (m R + n)/w and (m′ R + n′)/w′, for every R above 512,000,000,000,000. To cite:
 --   Coordinate, x-of, y-of   the sizes that a point's coordinate has
+--   value-two, value-one     the values of m R + n and of w as polynomials
 --   gap, coordinate-at       the leading sign of the difference is its sign at R
 --   coordinate-same          the same at one R: m and n are in proportion
 use mathlib.Core.Path.{_≡_, sym, _∙_, ap, ap₂}

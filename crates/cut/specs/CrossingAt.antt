@@ -1,6 +1,6 @@
 -- The crossing of two objects at R, in places: for every R of 64,000,000,000 or more. To cite:
 --   meeting-says              of two figures that a sheet takes: what `meeting` says of the spots on both
---   Tells, crossing-tells     of two accepted objects: what `crossingOf` says of the places that they share
+--   Tells, tells, crossing-tells   of two accepted objects: what `crossingOf` says of the places that they share
 --   point-said                the point that is said
 --   none-when, many-when, point-when   and it says so just then
 use mathlib.Core.Path.{_≡_, refl, subst}

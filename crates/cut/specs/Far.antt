@@ -1,6 +1,7 @@
 -- The far end at R is the farthest place of its line in the square, for every R of 8,000,000 or more. To cite:
 --   frame-square     a frame point put at R is in the square
 --   Far              what a far end is at R: w above 0, `Farthest`, and a narrow point
+--   inner-p          p of a proper pair is strictly inside
 --   ahead, behind    the far end of a proper pair, and that of the reversed line
 --   ray-end, line-end, line-start   they are on the ray and on the line, cut at the square
 use mathlib.Core.Path.{_≡_, sym, _∙_, ap, subst}

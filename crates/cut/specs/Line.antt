@@ -3,8 +3,9 @@
 --   same-upto                              of two places of one line, neither before the other: the same
 --   upto-refl, upto-trans                  order along a direction
 --   online-p, online-q, upto-pq, segment-p, segment-q   the given places
---   online-turn, upto-turn, upto-back      the reversed direction
---   online-over, upto-over, other-way      a parallel direction
+--   upto-given, given-upto                 the same order of given places by inner products
+--   reverse-twice, length-reverse, online-turn, online-back, upto-turn, upto-back   the reversed direction
+--   online-over, upto-over, other-way, par-sym, par-reverse, dot-comm               a parallel direction
 -- Assumes nothing of R.
 use mathlib.Core.Path.{_≡_, subst}
 use mathlib.Core.List.{[], _∷_}

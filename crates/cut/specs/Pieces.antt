@@ -1,5 +1,5 @@
 -- Pieces of lines in the square, and their limits. To cite:
---   After, Before, Between, Part    not before a limit, not beyond it; on a piece in the square
+--   After, Before, Between, Part    not before a limit, not beyond it; on a piece in the square; of-after, of-before: taken apart
 --   part-same, between-same         the same place
 --   later-both, sooner-both         the later of two limits is both
 --   between-over, between-turn, turn-between   limits in a parallel direction, and in the reversed one

@@ -1,5 +1,5 @@
 -- What an answer says of a set of places at R. To cite:
---   Both                     the places of two sets
+--   Both, both-swap, both-map   the places of two sets; changed over; under other names
 --   Says                     none: there is none; point e: a point, whose place at R is in the set, and no other; many: two that differ
 --   says-map                 of the same set under another name
 use mathlib.Core.Logic.{_↔_}

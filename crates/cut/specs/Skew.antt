@@ -32,9 +32,9 @@ use Rattle.cut.specs.OneLine.{together-says}
 
 -- ---- a place p + (g / W) d: on the line, and within the limits just where the tests of g say so
 
-pub record Reached (p d : Vec) (g : ℤ) (M : Spot) : Type 0 where
-  pub by-x : M .X ≡ p .x *ℤ M .W +ℤ g *ℤ d .x
-  pub by-y : M .Y ≡ p .y *ℤ M .W +ℤ g *ℤ d .y
+record Reached (p d : Vec) (g : ℤ) (M : Spot) : Type 0 where
+  by-x : M .X ≡ p .x *ℤ M .W +ℤ g *ℤ d .x
+  by-y : M .Y ≡ p .y *ℤ M .W +ℤ g *ℤ d .y
 
 module _ (p d : Vec) (g : ℤ) (M : Spot) (m : Reached p d g M) where
   reached-on : OnLine p d M

@@ -1,5 +1,5 @@
 -- The signs of order, turn and side as signs of plain whole numbers, for code. To cite:
---   turnA, turnB, turnC, turn-is   turn is the first of three signs that is not 0: the coefficients of R R, R and 1
+--   det, turnA, turnB, turnC, turn-poly-is, turn-is   turn is the first of three signs that is not 0: the coefficients of R R, R and 1
 --   orderX, orderY, order-is       order: mx, nx, my, ny over a common w
 --   turn-by                        the same from other words for the three
 --   sideB, sideC, pair-side-is     the side of a segment, ray or line (all three compute to this turn)

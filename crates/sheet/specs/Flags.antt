@@ -1,6 +1,7 @@
 -- What a Boolean definition says, read by `simp`. To cite:
 --   flags      rules that turn `.. ≡ true` and `.. ≡ false` of &&, ||, not, ltZ, leZ, eqZ, eqb into products of orders and equations:
 --              `simp flags at h` reads a hypothesis, `simp flags (x, y)` proves a goal. A sum `s || t ≡ true` stays a sum of flags.
+--              Each rule may be cited by its own name too: both, neither, either, not-both, isnt-not, eqb-is, ..
 --   cond-zero  a refusal that is 0 was not given: its test failed, and what stands behind it is 0. In `flags` too.
 -- Assumes nothing.
 use mathlib.Core.Path.{_≡_, refl, sym}

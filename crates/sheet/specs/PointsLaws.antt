@@ -1,7 +1,7 @@
 -- Points: the common divisor going out, and what the Boolean definitions say. To cite:
 --   Times, divided-back      each number of p is the divisor times that of `divided p`
 --   divides-w, divisor-above, divided-above, divided-one      the divisor is above 0; w stays above 0; the divisor is then 1
---   Standard, Narrow, OnEdge, InSquare, Frame, APoint    the facts, in ℤ; reduced: the divisor of a point is 1
+--   Upto, Standard, Narrow, OnEdge, InSquare, Frame, APoint    the facts, in ℤ; reduced: the divisor of a point is 1
 --   narrow-is, standard-is, edge-is, in-square-is, frame-is, point-is
 --                            each definition is true exactly where they hold: `.0` reads, `.1` introduces
 --   narrow-divided, frame-divided, standard-divided      the facts survive the division

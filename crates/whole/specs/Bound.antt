@@ -2,6 +2,7 @@
 --   w-add, w-sub, w-neg, w-mul, w-pos, w-negsuc, w-sgn, w-quot, w-size   the operations
 --   w-weak, w-lit, w-is      a larger bound; between literals; in other words
 --   w-upper, w-lower, w-intro   as two orders
+--   natAbs-neg, natAbs-mul   the size of an opposite, of a product
 --   fits64, of-fits          such a number fits an i64, and what fits is within 2 ^ 63
 -- Assumes nothing.
 use mathlib.Core.Path.{_≡_, refl, sym, ap, subst}

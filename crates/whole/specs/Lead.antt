@@ -1,5 +1,6 @@
 -- The sign of a polynomial's value at a large R is its leading sign. To cite:
---   Below R p        every coefficient but the highest is within n, and n is below R
+--   Small, small     a number is within n, and n is below R
+--   Below R p        so is every coefficient but the highest
 --   lead             then the sign of the value at R is the leading sign; of any degree
 --   lead-two         of degree two at the most, by the sizes that the two lower coefficients have
 --   two-zero         u R + v = 0 with v within n below R makes u and v 0

@@ -1,8 +1,9 @@
 -- The order of ℤ. To cite:
 --   le-intro, le-dest, lt-intro, lt-dest   a ≤ b is b = a + n; a < b is b = a + (n + 1)
 --   nn-.., pp-..                           what is 0 or more, what is above 0: sums, products, squares
+--   le-nn, lt-pp                           b - a from a ≤ b, from a < b
 --   le-cert, lt-cert                       b - a is c, and c is 0 or more (above 0)
---   ≤-trans, <-≤-trans, ..                 transitivity; ≤-antisym; le-or-lt, tri: totality
+--   ≤-trans, <-≤-trans, ..                 transitivity; ≤-antisym; le-or-lt, tri: totality; ≤-of, <-≤, lt-of-le-ne: from one to another
 --   ≤-add, ≤-neg, ≤-mul, <-neg, <-mul      monotonicity
 -- Assumes nothing.
 use mathlib.Core.Path.{_≡_, refl, sym, _∙_, ap, ap₂, subst}

@@ -1,4 +1,5 @@
 -- Tests of whole numbers, as flags. To cite:
+--   eqZ                         the flag of equality, beside the kit's ltZ and leZ
 --   ltZ-true, ltZ-false, leZ-true, leZ-false, eqZ-true, eqZ-false   what a flag says
 --   lt-ltZ, le-ltZ, le-leZ, lt-leZ, eq-eqZ, ne-eqZ                  the flag from what holds
 --   cond-by                     what holds of both choices, each where its flag says so, holds of the choice
