@@ -15,13 +15,13 @@ use Rattle.sheet.specs.RefusalLaws.{Drawn, draw-segment, draw-ray, draw-line, d
 use Rattle.sheet.specs.Ends.{corner, begins, nextSide, firstOf, lastOf}
 use Rattle.cut.specs.Bounds.{endsNeed}
 use Rattle.cut.specs.Place.{Spot, fixed}
-use Rattle.cut.specs.Cut.{Upto, InSquare, OnSide, On, on-segment, on-ray, on-side}
+use Rattle.cut.specs.Cut.{Upto, InSquare, OnSide, On, on-segment, on-ray, on-line, on-side}
 use Rattle.cut.specs.Ordinary.{way}
 use Rattle.cut.specs.Same.{spotAt, given-spot, on-same, upto-same, same-upto-left, of-segment, of-ray, of-line, of-side}
-use Rattle.cut.specs.Line.{upto-refl, online-p, segment-p, segment-q, online-turn, upto-back, length-reverse}
-use Rattle.cut.specs.Square.{square-by, near, length-pq, unit, Turned}
+use Rattle.cut.specs.Line.{upto-refl, online-p, online-turn, online-back, upto-back, length-reverse}
+use Rattle.cut.specs.Square.{square-by, near, length-pq, segment-p, segment-q, unit, Turned}
 use Rattle.cut.specs.Farthest.{farthest-last}
-use Rattle.cut.specs.Far.{ahead, behind, inner-p, ray-end, line-end, line-start}
+use Rattle.cut.specs.Far.{ahead, behind, inner-p}
 
 -- ---- corners
 
@@ -142,8 +142,8 @@ ends-at {R} hR (draw-line {p = p} {q = q} a) =
     record {
       first-over = b .over;
       last-over = f .over;
-      first-on = line-start hR a;
-      last-on = line-end hR a;
+      first-on = on-line (record { on = online-back (b .farthest .on); cut = b .farthest .on-side .in-square });
+      last-on = on-line (record { on = f .farthest .on; cut = f .farthest .on-side .in-square });
       not-before = λ S s. upto-back (farthest-last back (inner-p hR a) (b .farthest) (online-turn (of-line s .on)) (of-line s .cut));
       not-beyond = λ S s. farthest-last (length-pq a) (inner-p hR a) (f .farthest) (of-line s .on) (of-line s .cut);
     }
@@ -159,7 +159,10 @@ ends-at {R} hR (draw-ray {p = p} {q = q} a) =
             of-line = record { on = online-p p (p ⇀ q); cut = near (a .small-p .in-x) (a .small-p .in-y) (≤-trans (leZ-yes tt) hR) };
             from-p = upto-refl (p ⇀ q) (fixed p);
           }));
-      last-on = ray-end hR a;
+      last-on = on-ray (record {
+        of-line = record { on = f .farthest .on; cut = f .farthest .on-side .in-square };
+        from-p = f .farthest .ahead;
+      });
     }
 ends-at {R} hR (draw-side {n = n}) =
     subst (λ (e : Point). FromTo R (side n) e (begins (nextSide n))) (sym (begins-is n))

@@ -3,7 +3,6 @@
 --   Far              what a far end is at R: w above 0, `Farthest`, and a narrow point
 --   inner-p          p of a proper pair is strictly inside
 --   ahead, behind    the far end of a proper pair, and that of the reversed line
---   ray-end, line-end, line-start   they are on the ray and on the line, cut at the square
 use mathlib.Core.Path.{_≡_, sym, _∙_, ap, subst}
 use mathlib.Core.List.{[], _∷_}
 use Prim.Native.Nat.{zero, suc}
@@ -20,7 +19,7 @@ use Rattle.whole.specs.Linear.{lt-one}
 use Rattle.whole.specs.Bound.{Within, w-upper, w-lower}
 use Rattle.whole.specs.Cert.{z-eq, z-add, nn-eq, eq-cert}
 use Rattle.sheet.specs.declared.Point.{Point}
-use Rattle.sheet.specs.Figure.{Vec, _⇀_, Side, left, bottom, right, top, outX, outY, ray, line}
+use Rattle.sheet.specs.Figure.{Vec, _⇀_, Side, left, bottom, right, top, outX, outY}
 use Rattle.sheet.specs.Points.{size}
 use Rattle.sheet.specs.Ends.{moment, flat, steep, farRaw, farEnd, reverse}
 use Rattle.sheet.specs.RefusalLaws.{Proper}
@@ -29,9 +28,8 @@ use Rattle.sheet.specs.PointsLaws.{Frame, divided-above}
 use Rattle.sheet.specs.EndsLaws as ends
 use Rattle.sheet.specs.EndsLaws.{Way, far-frame, Fine, far-end-fine, proper-way, reverse-way}
 use Rattle.cut.specs.Bounds.{endsNeed}
-use Rattle.cut.specs.Cut.{InSquare, On, on-ray, on-line}
+use Rattle.cut.specs.Cut.{InSquare}
 use Rattle.cut.specs.Same.{spotAt, divided-spot}
-use Rattle.cut.specs.Line.{online-back}
 use Rattle.cut.specs.Square.{square-by, Inner, inner-small}
 use Rattle.cut.specs.Farthest.{Farthest, farthest-by, farthest-move}
 
@@ -213,14 +211,3 @@ module _ {R : ℤ} (hR : pos endsNeed ≤ℤ R) where
 
     pub behind : Far R p (reverse (p ⇀ q)) (farEnd p (reverse (p ⇀ q)))
     behind = far p (reverse (p ⇀ q)) inner-p (reverse-way p (p ⇀ q) (proper-way a))
-
-    pub ray-end : On R (ray p q) (spotAt R (farEnd p (p ⇀ q)) (ahead .over))
-    ray-end =
-        let f = ahead .farthest in
-        on-ray (record { of-line = record { on = f .on; cut = f .on-side .in-square }; from-p = f .ahead })
-
-    pub line-end : On R (line p q) (spotAt R (farEnd p (p ⇀ q)) (ahead .over))
-    line-end = let f = ahead .farthest in on-line (record { on = f .on; cut = f .on-side .in-square })
-
-    pub line-start : On R (line p q) (spotAt R (farEnd p (reverse (p ⇀ q))) (behind .over))
-    line-start = let f = behind .farthest in on-line (record { on = online-back (f .on); cut = f .on-side .in-square })

@@ -2,7 +2,7 @@
 --   size²                                  the square of a direction's length
 --   same-upto                              of two places of one line, neither before the other: the same
 --   upto-refl, upto-trans                  order along a direction
---   online-p, online-q, upto-pq, segment-p, segment-q   the given places
+--   online-p, online-q, upto-pq            the given places
 --   upto-given, given-upto                 the same order of given places by inner products
 --   reverse-twice, length-reverse, online-turn, online-back, upto-turn, upto-back   the reversed direction
 --   online-over, upto-over, other-way, par-sym, par-reverse, dot-comm               a parallel direction
@@ -18,7 +18,7 @@ use Rattle.sheet.specs.Figure.{Vec, _⇀_}
 use Rattle.sheet.specs.Ends.{reverse}
 use Rattle.sheet.specs.Crossing.{dot}
 use Rattle.cut.specs.Place.{Spot, fixed}
-use Rattle.cut.specs.Cut.{OnLine, along, Upto, OfSegment}
+use Rattle.cut.specs.Cut.{OnLine, along, Upto}
 use Rattle.cut.specs.Same.{Same}
 
 abbrev pub size² : Vec → ℤ
@@ -73,12 +73,6 @@ upto-pq p q = record {
       le-cert _ (nn-add (nn-sq (q .x -ℤ p .x)) (nn-sq (q .y -ℤ p .y)))
       (reify (q .x ∷ q .y ∷ p .x ∷ p .y ∷ []) (λ ρ v. simp (reading, v 0, v 1, v 2, v 3, val-pos ρ) (solve _ _ _ tt)));
 }
-
-pub segment-p : (p q : Vec) → OfSegment p q (fixed p)
-segment-p p q = record { on = online-p p (p ⇀ q); not-before-p = upto-refl (p ⇀ q) (fixed p); not-beyond-q = upto-pq p q }
-
-pub segment-q : (p q : Vec) → OfSegment p q (fixed q)
-segment-q p q = record { on = online-q p q; not-before-p = upto-pq p q; not-beyond-q = upto-refl (p ⇀ q) (fixed q) }
 
 -- two given places, by inner products
 module _ {d a b : Vec} where

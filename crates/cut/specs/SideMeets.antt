@@ -1,6 +1,6 @@
 -- A side of the frame with a segment, ray or line: what they share is the end that is on it. To cite:
 --   segment-says, ray-says, line-says   for every R above 16,000,000
-use mathlib.Core.Path.{_≡_, sym, _∙_}
+use mathlib.Core.Path.{_≡_, refl, sym, _∙_}
 use mathlib.Core.Logic.{_↔_, _⊎_, inl, inr}
 use mathlib.Core.List.{[], _∷_}
 use mathlib.Core.Bool.{true, true≢false}
@@ -14,19 +14,20 @@ use Rattle.whole.specs.Tests.{cond-by, eqZ, eqZ-true, eq-eqZ}
 use Rattle.whole.specs.Lead.{small, two-zero}
 use Rattle.whole.specs.Cert.{z-eq, z-add, eq-cert}
 use Rattle.sheet.specs.declared.Point.{Point}
-use Rattle.sheet.specs.Figure.{Vec, _⇀_, Side, outX, outY, segment, ray, line, side}
+use Rattle.sheet.specs.Figure.{Vec, _⇀_, Side, outX, outY, Figure, segment, ray, line, side}
 use Rattle.sheet.specs.Ends.{farEnd, reverse}
-use Rattle.sheet.specs.RefusalLaws.{Proper}
+use Rattle.sheet.specs.RefusalLaws.{Proper, draw-ray, draw-line}
 use Rattle.sheet.specs.Flags.{both}
 use Rattle.sheet.specs.Crossing.{Meeting, none, onSide, endOn}
 use Rattle.cut.specs.Bounds.{endsNeed, touchNeed}
 use Rattle.cut.specs.Place.{Spot, fixed}
 use Rattle.cut.specs.Cut.{OnLine, along, Upto, OnSide, On, on-side}
-use Rattle.cut.specs.Same.{Same, side-same, spotAt, of-ray, of-line, of-side}
+use Rattle.cut.specs.Same.{Same, side-same, on-same, spotAt, of-ray, of-line, of-side}
 use Rattle.cut.specs.Line.{size², online-turn, upto-turn, length-reverse}
 use Rattle.cut.specs.Square.{Inner, off-side, segment-small, length-pq, out-within}
 use Rattle.cut.specs.Farthest.{farthest-same, leads-out}
-use Rattle.cut.specs.Far.{Far, ahead, behind, inner-p, ray-end, line-end, line-start}
+use Rattle.cut.specs.Far.{Far, ahead, behind, inner-p}
+use Rattle.cut.specs.EndsAt.{ends-at}
 use Rattle.cut.specs.Says.{Both, Says, says-none, says-point}
 
 -- ---- one end against a side
@@ -74,14 +75,16 @@ module _ {R : ℤ} (hR : pos touchNeed <ℤ R) {p d : Vec} {e : Point} (len : po
   end-out : OnSide R n E → pos 0 <ℤ (outX n *ℤ d .x +ℤ outY n *ℤ d .y)
   end-out s = leads-out len inn (record { on = f .farthest .on; ahead = f .farthest .ahead; over = n; on-side = s })
 
-  -- the end is asked first: it is what the side shares with F, or it is not, and m is the answer
-  end-says : {F : Spot → Type 0} {m : Meeting} → F E → (OnSide R n E → (S : Spot) → OnSide R n S → F S → Same S E)
-      → ((OnSide R n E → ⊥) → Says R (Both (On R (side n)) F) m) → Says R (Both (On R (side n)) F) (endOn n e m)
-  end-says {F} on only otherwise =
-      cond-by (Says R (Both (On R (side n)) F)) (onSide n e)
+  -- the end of a figure g is asked first: it is what the side shares with g, or it is not, and m is the answer
+  end-says : {g : Figure} {m : Meeting} {k : pos 0 <ℤ e .w} → On R g (spotAt R e k)
+      → (OnSide R n E → (S : Spot) → OnSide R n S → On R g S → Same S E)
+      → ((OnSide R n E → ⊥) → Says R (Both (On R (side n)) (On R g)) m) → Says R (Both (On R (side n)) (On R g)) (endOn n e m)
+  end-says {g} on only otherwise =
+      cond-by (Says R (Both (On R (side n)) (On R g))) (onSide n e)
       (λ t.
       let s = end-test .0 t in
-      says-point (f .over) (f .fine .point) (record { first = on-side s; second = on }) (λ S b. only s S (of-side (b .first)) (b .second)))
+      says-point (f .over) (f .fine .point) (record { first = on-side s; second = on-same (record { same-x = refl; same-y = refl }) on })
+      (λ S b. only s S (of-side (b .first)) (b .second)))
       (λ t. otherwise (λ s. true≢false (sym (end-test .1 s) ∙ t)))
 
 -- ---- the three kinds
@@ -101,7 +104,7 @@ module _ {R : ℤ} (hR : pos touchNeed <ℤ R) {p q : Vec} (a : Proper p q) (n :
 
   pub ray-says : Says R (Both (On R (side n)) (On R (ray p q))) (endOn n (farEnd p (p ⇀ q)) none)
   ray-says =
-      end-says hR (length-pq a) (inner-p hL a) (ahead hL a) n (ray-end hL a) (λ s S. at)
+      end-says hR (length-pq a) (inner-p hL a) (ahead hL a) n (ends-at hL (draw-ray a) .last-on) (λ s S. at)
       (λ f. says-none (λ S b. f (side-same (at (of-side (b .first)) (b .second)) (of-side (b .first)))))
     where
       at : {S : Spot} → OnSide R n S → On R (ray p q) S → Same S foreE
@@ -139,9 +142,9 @@ module _ {R : ℤ} (hR : pos touchNeed <ℤ R) {p q : Vec} (a : Proper p q) (n :
 
   pub line-says : Says R (Both (On R (side n)) (On R (line p q))) (endOn n (farEnd p (p ⇀ q)) (endOn n (farEnd p (reverse (p ⇀ q))) none))
   line-says =
-      end-says hR (length-pq a) (inner-p hL a) (ahead hL a) n (line-end hL a) (λ s S o l. at-fore s o (which S o l))
+      end-says hR (length-pq a) (inner-p hL a) (ahead hL a) n (ends-at hL (draw-line a) .last-on) (λ s S o l. at-fore s o (which S o l))
       (λ f.
-      end-says hR back (inner-p hL a) (behind hL a) n (line-start hL a) (λ s S o l. at-aft f o (which S o l))
+      end-says hR back (inner-p hL a) (behind hL a) n (ends-at hL (draw-line a) .first-on) (λ s S o l. at-aft f o (which S o l))
       (λ g. says-none (λ S b.
       let o = of-side (b .first) in
       g (side-same (at-aft f o (which S o (b .second))) o))))

@@ -2,7 +2,7 @@
 --   square-by, near          in the square, by coordinates; both of them m at most is inside a square of m or more
 --   Inner, inner-small       a given place strictly inside
 --   larger-square, off-side  in a smaller square: in the larger one too, and on no side of it
---   segment-small            a segment is as far inside as its ends
+--   segment-small, segment-p, segment-q   a segment is as far inside as its ends, and they are on it
 --   length-pq                the direction of a proper pair
 --   unit, out-within, Turned   the sides' ways out; m follows n
 use mathlib.Core.Path.{_≡_, refl, subst}
@@ -21,8 +21,8 @@ use Rattle.sheet.specs.Figure.{Vec, _⇀_, Side, left, bottom, right, top, outX
 use Rattle.sheet.specs.RefusalLaws.{Small, Proper}
 use Rattle.sheet.specs.EndsLaws.{proper-way}
 use Rattle.cut.specs.Place.{Spot, fixed}
-use Rattle.cut.specs.Cut.{OnLine, Upto, out, InSquare, OnSide, On, on-segment}
-use Rattle.cut.specs.Line.{size²}
+use Rattle.cut.specs.Cut.{OnLine, Upto, out, InSquare, OfSegment, OnSide, On, on-segment}
+use Rattle.cut.specs.Line.{size², upto-refl, online-p, online-q, upto-pq}
 
 -- ---- by coordinates
 
@@ -124,6 +124,12 @@ pub segment-small : {R : ℤ} {p q : Vec} {S : Spot} → Proper p q → On R (se
 segment-small {R} {p} {q} {S} a (on-segment s) =
     segment-in (length-pq a) (near (a .small-p .in-x) (a .small-p .in-y) (≤ℤ-refl (pos 2000)))
     (near (a .small-q .in-x) (a .small-q .in-y) (≤ℤ-refl (pos 2000))) (s .on) (s .not-before-p) (s .not-beyond-q)
+
+pub segment-p : (p q : Vec) → OfSegment p q (fixed p)
+segment-p p q = record { on = online-p p (p ⇀ q); not-before-p = upto-refl (p ⇀ q) (fixed p); not-beyond-q = upto-pq p q }
+
+pub segment-q : (p q : Vec) → OfSegment p q (fixed q)
+segment-q p q = record { on = online-q p q; not-before-p = upto-pq p q; not-beyond-q = upto-refl (p ⇀ q) (fixed q) }
 
 -- ---- the sides' ways out
 

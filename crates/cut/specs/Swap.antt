@@ -16,8 +16,8 @@ use Rattle.cut.specs.Bounds.{smallBound}
 use Rattle.cut.specs.Place.{Place, put, fixed}
 use Rattle.cut.specs.Cut.{InSquare, On, on-segment, on-ray, on-line, Shared}
 use Rattle.cut.specs.Claims.{Answered}
-use Rattle.cut.specs.Line.{upto-refl, online-p, online-q, upto-pq, segment-p, segment-q}
-use Rattle.cut.specs.Square.{near}
+use Rattle.cut.specs.Line.{upto-refl, online-p, online-q, upto-pq}
+use Rattle.cut.specs.Square.{near, segment-p, segment-q}
 use Rattle.cut.specs.Says.{Both, Says, says-many}
 use Rattle.cut.specs.SidesMeet.{same-says}
 use Rattle.cut.specs.SameNumbers.{same-numbers-at}
