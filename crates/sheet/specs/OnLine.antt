@@ -127,26 +127,19 @@ module _ (dx dy k : ℤ) where
 
 pub far-on-line : (p d : Vec) → Way (d .x) (d .y) (moment p d) → OnLine p d (farEnd p d)
 unfolding farEnd
-far-on-line p d h = on-line-divided (far-frame (d .x) (d .y) k h .slim .in-w .above) (go (far (d .x) (d .y) k))
+far-on-line p d h = on-line-divided (far-frame (d .x) (d .y) (moment p d) h .slim .in-w .above) (go (far (d .x) (d .y) (moment p d)))
   where
-    k : ℤ
-    k = moment p d
+    on-flat : OnLine p d (flat (d .x) (d .y) (moment p d))
+    on-flat = record { level = flat-level (d .x) (d .y) (moment p d); even = flat-even (d .x) (d .y) (moment p d) }
 
-    on-flat : {e : Point} → e ≡ flat (d .x) (d .y) (moment p d) → OnLine p d e
-    on-flat e =
-        subst (OnLine p d) (sym e)
-        (record { level = flat-level (d .x) (d .y) (moment p d); even = flat-even (d .x) (d .y) (moment p d) })
-
-    on-steep : {e : Point} → e ≡ steep (d .x) (d .y) (moment p d) → OnLine p d e
-    on-steep e =
-        subst (OnLine p d) (sym e)
-        (record { level = steep-level (d .x) (d .y) (moment p d); even = steep-even (d .x) (d .y) (moment p d) })
+    on-steep : OnLine p d (steep (d .x) (d .y) (moment p d))
+    on-steep = record { level = steep-level (d .x) (d .y) (moment p d); even = steep-even (d .x) (d .y) (moment p d) }
 
     go : Far (d .x) (d .y) (moment p d) → OnLine p d (farRaw (d .x) (d .y) (moment p d))
-    go (flatter l e) = on-flat e
-    go (steeper l e) = on-steep e
-    go (tie-flat z t e) = on-flat e
-    go (tie-steep z t e) = on-steep e
+    go (flatter l e) = subst (OnLine p d) (sym e) on-flat
+    go (steeper l e) = subst (OnLine p d) (sym e) on-steep
+    go (tie-flat z t e) = subst (OnLine p d) (sym e) on-flat
+    go (tie-steep z t e) = subst (OnLine p d) (sym e) on-steep
 
 -- ---- one line by two pairs of p and d
 
