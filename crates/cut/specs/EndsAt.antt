@@ -19,7 +19,7 @@ use Rattle.cut.specs.Cut.{Upto, InSquare, OnSide, On, on-segment, on-ray
 use Rattle.cut.specs.Ordinary.{way}
 use Rattle.cut.specs.Same.{spotAt, given-spot, on-same, upto-same, same-upto-left, of-segment, of-ray, of-line, of-side}
 use Rattle.cut.specs.Line.{upto-refl, online-p, online-turn, online-back, upto-back, length-reverse}
-use Rattle.cut.specs.Square.{square-by, near, length-pq, segment-p, segment-q, unit, Turned}
+use Rattle.cut.specs.Square.{square-by, near, length-pq, segment-p, segment-q, unit, Turned, turned}
 use Rattle.cut.specs.Farthest.{farthest-last}
 use Rattle.cut.specs.Far.{ahead, behind, inner-p}
 
@@ -38,17 +38,11 @@ ends-is bottom = refl
 ends-is right = refl
 ends-is top = refl
 
-next : (n : Side) → (m : Side) × Turned n m
-next left = (bottom, record { turn-x = refl; turn-y = refl })
-next bottom = (right, record { turn-x = refl; turn-y = refl })
-next right = (top, record { turn-x = refl; turn-y = refl })
-next top = (left, record { turn-x = refl; turn-y = refl })
-
 prev : (n : Side) → (m : Side) × Turned m n
-prev left = (top, record { turn-x = refl; turn-y = refl })
-prev bottom = (left, record { turn-x = refl; turn-y = refl })
-prev right = (bottom, record { turn-x = refl; turn-y = refl })
-prev top = (right, record { turn-x = refl; turn-y = refl })
+prev left = (top, turned top)
+prev bottom = (left, turned left)
+prev right = (bottom, turned bottom)
+prev top = (right, turned right)
 
 corners : (n : Side)
     → Within 1 (outX n +ℤ outY n) × Within 1 (outY n -ℤ outX n) × Within 1 (outX n -ℤ outY n) × Within 1 (outY n +ℤ outX n)
@@ -104,8 +98,8 @@ module _ (R : ℤ) (R0 : pos 0 ≤ℤ R) where
 
     before-corner : {S : Spot} → InSquare R S → Upto (way (side n)) S (cornerSpot R (outX n -ℤ outY n) (outY n +ℤ outX n))
     before-corner {S} h =
-        let m = next n .0 in
-        let t = next n .1 in
+        let m = nextSide n in
+        let t = turned n in
         record {
           upto =
               le-cert _

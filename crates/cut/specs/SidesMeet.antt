@@ -16,7 +16,7 @@ use Rattle.sheet.specs.Crossing.{none, point, many, sides}
 use Rattle.cut.specs.Place.{Spot}
 use Rattle.cut.specs.Cut.{OnSide, On, on-side}
 use Rattle.cut.specs.Same.{Same, of-side}
-use Rattle.cut.specs.Square.{unit, Turned}
+use Rattle.cut.specs.Square.{unit, Turned, turned}
 use Rattle.cut.specs.EndsAt.{begins-is, cornerSpot, first-corner, last-corner}
 use Rattle.cut.specs.Says.{Both, Says, says-none, says-point, says-many, says-map, both-swap}
 
@@ -107,18 +107,18 @@ module _ {R : ℤ} (hR : pos 0 <ℤ R) where
 
   pub sides-says : (m n : Side) → Says R (Both (On R (side m)) (On R (side n))) (sides m n)
   sides-says left left = same-says left
-  sides-says left bottom = next-says left bottom (record { turn-x = refl; turn-y = refl })
+  sides-says left bottom = next-says left bottom (turned left)
   sides-says left right = opposite-says left right refl refl
-  sides-says left top = back-says top left (record { turn-x = refl; turn-y = refl })
-  sides-says bottom left = back-says left bottom (record { turn-x = refl; turn-y = refl })
+  sides-says left top = back-says top left (turned top)
+  sides-says bottom left = back-says left bottom (turned left)
   sides-says bottom bottom = same-says bottom
-  sides-says bottom right = next-says bottom right (record { turn-x = refl; turn-y = refl })
+  sides-says bottom right = next-says bottom right (turned bottom)
   sides-says bottom top = opposite-says bottom top refl refl
   sides-says right left = opposite-says right left refl refl
-  sides-says right bottom = back-says bottom right (record { turn-x = refl; turn-y = refl })
+  sides-says right bottom = back-says bottom right (turned bottom)
   sides-says right right = same-says right
-  sides-says right top = next-says right top (record { turn-x = refl; turn-y = refl })
-  sides-says top left = next-says top left (record { turn-x = refl; turn-y = refl })
+  sides-says right top = next-says right top (turned right)
+  sides-says top left = next-says top left (turned top)
   sides-says top bottom = opposite-says top bottom refl refl
-  sides-says top right = back-says right top (record { turn-x = refl; turn-y = refl })
+  sides-says top right = back-says right top (turned right)
   sides-says top top = same-says top

@@ -4,7 +4,7 @@
 --   larger-square, off-side  in a smaller square: in the larger one too, and on no side of it
 --   segment-small, segment-p, segment-q   a segment is as far inside as its ends, and they are on it
 --   length-pq                the direction of a proper pair
---   unit, out-within, Turned   the sides' ways out; m follows n
+--   unit, out-within, Turned, turned   the sides' ways out; m follows n; the next side does
 use mathlib.Core.Path.{_≡_, refl, subst}
 use mathlib.Core.List.{List, [], _∷_}
 use Prim.Native.Nat.{ℕ}
@@ -18,6 +18,7 @@ use Rattle.whole.specs.Linear.{lt-one}
 use Rattle.whole.specs.Bound.{Within, w-pos, w-negsuc, w-lit, w-upper, w-lower}
 use Rattle.whole.specs.Cert.{nn-eq, le-by}
 use Rattle.sheet.specs.Figure.{Vec, _⇀_, Side, left, bottom, right, top, outX, outY, segment}
+use Rattle.sheet.specs.Ends.{nextSide}
 use Rattle.sheet.specs.RefusalLaws.{Small, Proper}
 use Rattle.sheet.specs.EndsLaws.{proper-way}
 use Rattle.cut.specs.Place.{Spot, fixed}
@@ -149,3 +150,9 @@ out-within top = (w-lit (w-pos 0) tt, w-pos 1)
 pub record Turned (n m : Side) : Type 0 where
   pub turn-x : outX m ≡ negℤ (outY n)
   pub turn-y : outY m ≡ outX n
+
+pub turned : (n : Side) → Turned n (nextSide n)
+turned left = record { turn-x = refl; turn-y = refl }
+turned bottom = record { turn-x = refl; turn-y = refl }
+turned right = record { turn-x = refl; turn-y = refl }
+turned top = record { turn-x = refl; turn-y = refl }
