@@ -14,8 +14,8 @@ use Rattle.whole.specs.Cert.{z-eq, z-add, nn-eq, pp-cancel, le-by, eq-cert}
 use Rattle.sheet.specs.Figure.{Vec, Side, outX, outY}
 use Rattle.cut.specs.Place.{Spot, fixed}
 use Rattle.cut.specs.Cut.{OnLine, Upto, InSquare, OnSide}
-use Rattle.cut.specs.Same.{Same, online-same, upto-same, side-same}
-use Rattle.cut.specs.Line.{size², same-upto}
+use Rattle.cut.specs.Same.{Same, online-same, upto-same, side-same, same-upto}
+use Rattle.cut.specs.Line.{size²}
 use Rattle.cut.specs.Square.{Inner}
 
 pub record Farthest (R : ℤ) (p d : Vec) (E : Spot) : Type 0 where

@@ -5,8 +5,8 @@ pub mod Cut
 pub mod Ordinary
 pub mod Claims
 -- lines, places and the square
-pub mod Same
 pub mod Line
+pub mod Same
 pub mod Square
 -- ends
 pub mod Farthest

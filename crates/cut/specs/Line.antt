@@ -1,6 +1,5 @@
 -- Places along a line. To cite:
 --   size²                                  the square of a direction's length
---   same-upto                              of two places of one line, neither before the other: the same
 --   upto-refl, upto-trans                  order along a direction
 --   online-p, online-q, upto-pq            the given places
 --   upto-given, given-upto                 the same order of given places by inner products
@@ -12,36 +11,16 @@ use mathlib.Core.List.{[], _∷_}
 use lib.IntN.{ℤ, pos, negsuc, negℤ, _+ℤ_, _-ℤ_, _*ℤ_, negℤ-negℤ}
 use lib.Signed.{_≤ℤ_, _<ℤ_, ≤ℤ-refl}
 use Rattle.whole.specs.Reify.{reify, reading, solve, val-pos, val-negsuc}
-use Rattle.whole.specs.Order.{le-cert, lt-cert, le-nn, nn-add, nn-mul, nn-sq, pp-add, pp-mul, pp-nn, ≤-antisym}
+use Rattle.whole.specs.Order.{le-cert, lt-cert, le-nn, nn-add, nn-mul, nn-sq, pp-add, pp-mul, pp-nn}
 use Rattle.whole.specs.Cert.{z-eq, z-add, nn-eq, pp-cancel, le-by, eq-by, eq-cert}
 use Rattle.sheet.specs.Figure.{Vec, _⇀_}
 use Rattle.sheet.specs.Ends.{reverse}
 use Rattle.sheet.specs.Crossing.{dot}
 use Rattle.cut.specs.Place.{Spot, fixed}
 use Rattle.cut.specs.Cut.{OnLine, along, Upto}
-use Rattle.cut.specs.Same.{Same}
 
 abbrev pub size² : Vec → ℤ
 size² d = dot d d
-
-module _ {p d : Vec} {P Q : Spot} (len : pos 0 <ℤ size² d) (a : OnLine p d P) (b : OnLine p d Q) where
-  -- equally far along: the same
-  same-along : along d P *ℤ Q .W ≡ along d Q *ℤ P .W → Same P Q
-  same-along e = record {
-    same-x =
-        eq-by (size² d) len _
-        (z-add (z-eq (d .x) e) (z-add (z-eq (negℤ (d .y *ℤ Q .W)) (a .online)) (z-eq (d .y *ℤ P .W) (b .online))))
-        (reify (d .x ∷ d .y ∷ p .x ∷ p .y ∷ P .X ∷ P .Y ∷ P .W ∷ Q .X ∷ Q .Y ∷ Q .W ∷ [])
-        (λ ρ v. simp (reading, v 0, v 1, v 2, v 3, v 4, v 5, v 6, v 7, v 8, v 9) (solve _ _ _ tt)));
-    same-y =
-        eq-by (size² d) len _
-        (z-add (z-eq (d .y) e) (z-add (z-eq (d .x *ℤ Q .W) (a .online)) (z-eq (negℤ (d .x *ℤ P .W)) (b .online))))
-        (reify (d .x ∷ d .y ∷ p .x ∷ p .y ∷ P .X ∷ P .Y ∷ P .W ∷ Q .X ∷ Q .Y ∷ Q .W ∷ [])
-        (λ ρ v. simp (reading, v 0, v 1, v 2, v 3, v 4, v 5, v 6, v 7, v 8, v 9) (solve _ _ _ tt)));
-  }
-
-  pub same-upto : Upto d P Q → Upto d Q P → Same P Q
-  same-upto h k = same-along (≤-antisym (h .upto) (k .upto))
 
 pub upto-refl : (d : Vec) (S : Spot) → Upto d S S
 upto-refl d S = record { upto = ≤ℤ-refl (along d S *ℤ S .W) }

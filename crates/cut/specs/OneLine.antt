@@ -18,8 +18,8 @@ use Rattle.sheet.specs.EndsLaws.{Way, given-fine}
 use Rattle.sheet.specs.Crossing.{point, many, Limit, till, Piece, dot, later, sooner, between, alike, together}
 use Rattle.cut.specs.Place.{Spot, fixed}
 use Rattle.cut.specs.Cut.{OnLine}
-use Rattle.cut.specs.Same.{same-trans, same-upto-left, given-spot}
-use Rattle.cut.specs.Line.{size², same-upto, upto-refl, upto-trans, online-p, upto-given, given-upto, online-turn, online-back, length-reverse, online-over, other-way, par-sym, par-reverse, dot-comm}
+use Rattle.cut.specs.Same.{same-trans, same-upto-left, given-spot, same-upto}
+use Rattle.cut.specs.Line.{size², upto-refl, upto-trans, online-p, upto-given, given-upto, online-turn, online-back, length-reverse, online-over, other-way, par-sym, par-reverse, dot-comm}
 use Rattle.cut.specs.Square.{near}
 use Rattle.cut.specs.Pieces.{After, after-free, after-till, Before, before-free, before-till, Between, Part, of-after, of-before, part-same, later-both, sooner-both, between-over, between-turn, turn-between, Marked, marked-free, marked-till, Fit}
 use Rattle.cut.specs.Says.{Both, Says, says-none, says-point, says-many, says-map}

@@ -5,6 +5,7 @@
 --   spotAt, put-spot                    the place of a point at R over its own denominator
 --   standing, given-spot                that of a standard point is the same for every R; of a given point
 --   divided-spot                        the place stays when the common divisor goes out
+--   same-upto                           of two places of one line, neither before the other: the same
 --   online-same, upto-same, same-upto-left, square-same, side-same, on-same   what holds of a spot holds of the same spot
 --   of-segment, of-ray, of-line, of-side   what it is to be on a figure of each kind
 -- Assumes nothing of R.
@@ -14,7 +15,7 @@ use lib.IntN.{ℤ, pos, negℤ, _+ℤ_, _*ℤ_, *ℤ-comm}
 use lib.Signed.{_<ℤ_}
 use Rattle.whole.specs.Ring.{var, con, _⊕_, _⊗_, ring}
 use Rattle.whole.specs.Reify.{reify, reading, solve, val-pos}
-use Rattle.whole.specs.Order.{le-nn, nn-add, nn-mul, pp-mul, pp-nn, pp-pos}
+use Rattle.whole.specs.Order.{le-nn, nn-add, nn-mul, pp-mul, pp-nn, pp-pos, ≤-antisym}
 use Rattle.whole.specs.Cert.{z-eq, z-add, nn-eq, le-by, eq-by, eq-cert}
 use Rattle.whole.specs.FractionLaws.{equal-trans}
 use Rattle.sheet.specs.declared.Point.{Point}
@@ -22,7 +23,8 @@ use Rattle.sheet.specs.Figure.{Vec, Side, outX, outY, Figure, segment, ray, lin
 use Rattle.sheet.specs.Points.{given, divisor, divided}
 use Rattle.sheet.specs.PointsLaws.{divided-back, divided-above}
 use Rattle.cut.specs.Place.{Place, SamePlace, put, Spot, spot, fixed}
-use Rattle.cut.specs.Cut.{OnLine, Upto, InSquare, OfSegment, OfRay, OfLine, OnSide, On, on-segment, on-ray, on-line, on-side}
+use Rattle.cut.specs.Cut.{OnLine, along, Upto, InSquare, OfSegment, OfRay, OfLine, OnSide, On, on-segment, on-ray, on-line, on-side}
+use Rattle.cut.specs.Line.{size², upto-turn, upto-back}
 
 pub record Same (P Q : Spot) : Type 0 where
   pub same-x : P .X *ℤ Q .W ≡ Q .X *ℤ P .W
@@ -147,14 +149,7 @@ module _ {S T : Spot} (e : Same S T) where
   }
 
   pub same-upto-left : {d : Vec} {P : Spot} → Upto d S P → Upto d T P
-  same-upto-left {d} {P} h = record {
-    upto =
-        le-by (S .W) (S .above) _
-        (nn-add (nn-mul (pp-nn (T .above)) (le-nn (h .upto)))
-        (nn-add (nn-eq (P .W *ℤ d .x) (e .same-x)) (nn-eq (P .W *ℤ d .y) (e .same-y))))
-        (reify (d .x ∷ d .y ∷ P .X ∷ P .Y ∷ P .W ∷ S .X ∷ S .Y ∷ S .W ∷ T .X ∷ T .Y ∷ T .W ∷ [])
-        (λ ρ v. simp (reading, v 0, v 1, v 2, v 3, v 4, v 5, v 6, v 7, v 8, v 9, v 10) (solve _ _ _ tt)));
-  }
+  same-upto-left h = upto-back (upto-same (upto-turn h))
 
   pub square-same : {R : ℤ} → InSquare R S → InSquare R T
   square-same {R} h = record {
@@ -186,6 +181,27 @@ module _ {S T : Spot} (e : Same S T) where
   on-same (on-line s) = on-line (of-line-same s)
   on-same (on-ray s) = on-ray (record { of-line = of-line-same (s .of-line); from-p = upto-same (s .from-p) })
   on-same (on-side s) = on-side (side-same s)
+
+-- ---- two places of one line
+
+module _ {p d : Vec} {P Q : Spot} (len : pos 0 <ℤ size² d) (a : OnLine p d P) (b : OnLine p d Q) where
+  -- equally far along: the same
+  same-along : along d P *ℤ Q .W ≡ along d Q *ℤ P .W → Same P Q
+  same-along e = record {
+    same-x =
+        eq-by (size² d) len _
+        (z-add (z-eq (d .x) e) (z-add (z-eq (negℤ (d .y *ℤ Q .W)) (a .online)) (z-eq (d .y *ℤ P .W) (b .online))))
+        (reify (d .x ∷ d .y ∷ p .x ∷ p .y ∷ P .X ∷ P .Y ∷ P .W ∷ Q .X ∷ Q .Y ∷ Q .W ∷ [])
+        (λ ρ v. simp (reading, v 0, v 1, v 2, v 3, v 4, v 5, v 6, v 7, v 8, v 9) (solve _ _ _ tt)));
+    same-y =
+        eq-by (size² d) len _
+        (z-add (z-eq (d .y) e) (z-add (z-eq (d .x *ℤ Q .W) (a .online)) (z-eq (negℤ (d .x *ℤ P .W)) (b .online))))
+        (reify (d .x ∷ d .y ∷ p .x ∷ p .y ∷ P .X ∷ P .Y ∷ P .W ∷ Q .X ∷ Q .Y ∷ Q .W ∷ [])
+        (λ ρ v. simp (reading, v 0, v 1, v 2, v 3, v 4, v 5, v 6, v 7, v 8, v 9) (solve _ _ _ tt)));
+  }
+
+  pub same-upto : Upto d P Q → Upto d Q P → Same P Q
+  same-upto h k = same-along (≤-antisym (h .upto) (k .upto))
 
 -- ---- taken apart
 
