@@ -59,10 +59,9 @@ one-to-four z h k = let w = le-dest h in go (w .0) (w .1)
     go (suc zero) e = is-2 e
     go (suc (suc zero)) e = is-3 e
     go (suc (suc (suc zero))) e = is-4 e
-    go (suc (suc (suc (suc n)))) e = absurd (over (subst (λ (x : ℤ). x ≤ℤ pos 4) e k))
-      where
-        over : pos (1 + suc (suc (suc (suc n)))) ≤ℤ pos 4 → ⊥
-        over l = let m = leb→le (1 + suc (suc (suc (suc n)))) 4 (l .le) in omega arith
+    go (suc (suc (suc (suc n)))) e =
+        let m = leb→le (1 + suc (suc (suc (suc n)))) 4 (subst (λ (x : ℤ). x ≤ℤ pos 4) e k .le) in
+        absurd (omega arith)
 
 -- ---- sides
 

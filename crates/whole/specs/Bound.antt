@@ -105,10 +105,7 @@ w-lower {n} {z} h = subst (λ (x : ℤ). negℤ (pos n) ≤ℤ x) (negℤ-negℤ
 pub w-intro : {n : ℕ} {z : ℤ} → negℤ (pos n) ≤ℤ z → z ≤ℤ pos n → Within n z
 w-intro {n} {z = pos k} h l = record { within = leb→le k n (l .le) }
 w-intro {n = zero} {z = negsuc k} h l = absurd (h .le)
-w-intro {n = suc m} {z = negsuc k} h l = record { within = go (leb→le k m (h .le)) }
-  where
-    go : k ≤ m → suc k ≤ suc m
-    go g = omega arith
+w-intro {n = suc m} {z = negsuc k} h l = let g = leb→le k m (h .le) in record { within = omega arith }
 
 pub w-sgn : (z : ℤ) → Within 1 (sgn z)
 unfolding sgn

@@ -40,10 +40,7 @@ gcd-step {a} {b} {g} h = record {
 
 steps-is : (n a b : ℕ) → b < n → IsGcd a b (steps n a b)
 unfolding steps
-steps-is zero a b h = absurd (below-zero h)
-  where
-    below-zero : b < 0 → ⊥
-    below-zero h = omega arith
+steps-is zero a b h = absurd (omega arith)
 steps-is (suc n) a b h = go (steps-is n b (a % b)) (eqb b 0) (eqb-true b 0) (eqb-false b 0)
   where
     go : (a % b < n → IsGcd b (a % b) (steps n b (a % b))) → (t : Bool) → (t ≡ true → b ≡ 0) → (t ≡ false → b ≡ 0 → ⊥)
@@ -162,14 +159,8 @@ gcdOf-above zs z d h = go (gcdOf zs) d
 
 times-inj : (c : ℤ) (xs ys : List ℤ) → pos 0 <ℤ c → times c xs ≡ times c ys → xs ≡ ys
 times-inj c [] [] h e = refl
-times-inj c [] (y ∷ ys) h e = absurd (differ e)
-  where
-    differ : _≡_ {A = List ℤ} [] ((c *ℤ y) ∷ times c ys) → ⊥
-    differ e = let z : _≡_ {A = ℕ} 0 1 = cc in omega arith
-times-inj c (x ∷ xs) [] h e = absurd (differ e)
-  where
-    differ : _≡_ {A = List ℤ} ((c *ℤ x) ∷ times c xs) [] → ⊥
-    differ e = let z : _≡_ {A = ℕ} 0 1 = cc in omega arith
+times-inj c [] (y ∷ ys) h e = let z : _≡_ {A = ℕ} 0 1 = cc in absurd (omega arith)
+times-inj c (x ∷ xs) [] h e = let z : _≡_ {A = ℕ} 0 1 = cc in absurd (omega arith)
 times-inj c (x ∷ xs) (y ∷ ys) h e =
     let e1 : c *ℤ x ≡ c *ℤ y = cc in
     let e2 : times c xs ≡ times c ys = cc in

@@ -6,7 +6,7 @@
 -- Assumes nothing.
 use mathlib.Core.Path.{_≡_, sym, _∙_, ap}
 use Prim.Native.Nat.{zero, suc}
-use lib.IntN.{ℤ, pos, negsuc, negℤ, sucℤ, predℤ, _+ℤ_, _-ℤ_, _*ℤ_, +ℤ-idl, +ℤ-idr, +ℤ-assoc, +ℤ-comm, +ℤ-invr, +ℤ-invl, sucℤ-+ℤ, predℤ-+ℤ, sucℤ-*ℤ, predℤ-*ℤ, zero-*ℤ, *ℤ-comm, *ℤ-one, one}
+use lib.IntN.{ℤ, pos, negsuc, negℤ, sucℤ, predℤ, _+ℤ_, _-ℤ_, _*ℤ_, +ℤ-idl, +ℤ-idr, +ℤ-assoc, +ℤ-comm, +ℤ-invr, +ℤ-invl, sucℤ-+ℤ, predℤ-+ℤ, sucℤ-*ℤ, predℤ-*ℤ, zero-*ℤ, *ℤ-comm, *ℤ-one, one, -ℤ-+ℤ-cancel}
 
 pub add-left-comm : (a b c : ℤ) → a +ℤ (b +ℤ c) ≡ b +ℤ (a +ℤ c)
 add-left-comm a b c = sym (+ℤ-assoc a b c) ∙ ap (λ (x : ℤ). x +ℤ c) (+ℤ-comm a b) ∙ +ℤ-assoc b a c
@@ -85,8 +85,7 @@ minus-one-mul a = neg-mul (pos 1) a ∙ ap negℤ (one-mul a)
 
 -- a - b = 0 says a = b
 pub eq-of-sub : (a b : ℤ) → a -ℤ b ≡ pos zero → a ≡ b
-eq-of-sub a b e =
-    sym (+ℤ-idr a) ∙ ap (λ (x : ℤ). a +ℤ x) (sym (+ℤ-invl b)) ∙ sym (+ℤ-assoc a (negℤ b) b) ∙ ap (λ (x : ℤ). x +ℤ b) e ∙ +ℤ-idl b
+eq-of-sub a b e = sym (-ℤ-+ℤ-cancel a b) ∙ ap (λ (x : ℤ). x +ℤ b) e ∙ +ℤ-idl b
 
 pub sub-self : (a : ℤ) → a -ℤ a ≡ pos zero
 sub-self a = +ℤ-invr a

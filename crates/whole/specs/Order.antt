@@ -10,11 +10,11 @@ use mathlib.Core.Path.{_≡_, refl, sym, _∙_, ap, ap₂, subst}
 use mathlib.Core.Logic.{_⊎_, inl, inr}
 use mathlib.Core.List.{[], _∷_}
 use mathlib.Core.Bool.{Bool, true, false, not, cond}
-use Prim.Native.Nat.{ℕ, zero, suc, _+_, _*_, _-_, _≤_, _<_}
+use Prim.Native.Nat.{ℕ, zero, suc, _+_, _*_, _-_}
 use native.Mathlib.Omega.{arith}
 use lib.Dec.{T, ltb, leb→le, le→leb, ltb→lt, lt→ltb}
 use lib.IntN.{ℤ, pos, negsuc, negℤ, natAbs, _+ℤ_, _-ℤ_, _*ℤ_, sucℤ, +ℤ-idr, +ℤ-one, +ℤ-assoc}
-use lib.Signed.{_≤ℤ_, _<ℤ_, leZ, ltZ, leZ-yes, ltZ-yes, ltZ-no, ≤ℤ-refl}
+use lib.Signed.{_≤ℤ_, _<ℤ_, leZ, ltZ, leZ-yes, ltZ-yes, ltZ-no, ≤ℤ-refl, <ℤ-≤ℤ-trans}
 use Rattle.whole.specs.Ring.{var, lit, _⊕_, _⊖_, ⊝_, ring}
 use Rattle.whole.specs.Reify.{reading, solve, reify}
 
@@ -35,17 +35,13 @@ pub le-intro : {a b : ℤ} (n : ℕ) → b ≡ a +ℤ pos n → a ≤ℤ b
 le-intro {a} {b} n e = subst (λ (z : ℤ). a ≤ℤ z) (sym e) (le-add a n)
 
 dest : (a b : ℤ) → T (leZ a b) → (n : ℕ) × (b ≡ a +ℤ pos n)
-dest (pos a) (pos b) t = (b - a, ap pos (go (leb→le a b t)))
-  where
-    go : a ≤ b → b ≡ a + (b - a)
-    go h = omega arith
+dest (pos a) (pos b) t = let h = leb→le a b t in (b - a, ap pos (omega arith))
 dest (pos a) (negsuc b) t = absurd t
 dest (negsuc a) (pos b) t = (b + suc a, ring (pos b ∷ pos (suc a) ∷ []) (var 0) (⊝ var 1 ⊕ (var 0 ⊕ var 1)) tt)
 dest (negsuc a) (negsuc b) t =
-    (a - b, ring (pos (suc b) ∷ pos (a - b) ∷ []) (⊝ var 0) (⊝ (var 0 ⊕ var 1) ⊕ var 1) tt ∙ ap (λ (k : ℕ). negℤ (pos k) +ℤ pos (a - b)) (go (leb→le b a t)))
-  where
-    go : b ≤ a → suc b + (a - b) ≡ suc a
-    go h = omega arith
+    let h = leb→le b a t in
+    let e : suc b + (a - b) ≡ suc a = omega arith in
+    (a - b, ring (pos (suc b) ∷ pos (a - b) ∷ []) (⊝ var 0) (⊝ (var 0 ⊕ var 1) ⊕ var 1) tt ∙ ap (λ (k : ℕ). negℤ (pos k) +ℤ pos (a - b)) e)
 
 pub le-dest : {a b : ℤ} → a ≤ℤ b → (n : ℕ) × (b ≡ a +ℤ pos n)
 le-dest {a} {b} h = dest a b (h .le)
@@ -55,15 +51,9 @@ lt-suc′ : (a b : ℤ) → T (ltZ a b) → T (leZ (sucℤ a) b)
 lt-suc′ (pos a) (pos b) t = t
 lt-suc′ (pos a) (negsuc b) t = absurd t
 lt-suc′ (negsuc zero) (pos b) t = le→leb 0 b (omega arith)
-lt-suc′ (negsuc zero) (negsuc b) t = go (ltb→lt b 0 t)
-  where
-    go : b < 0 → ⊥
-    go h = omega arith
+lt-suc′ (negsuc zero) (negsuc b) t = let h = ltb→lt b 0 t in absurd (omega arith)
 lt-suc′ (negsuc (suc a)) (pos b) t = tt
-lt-suc′ (negsuc (suc a)) (negsuc b) t = le→leb b a (go (ltb→lt b (suc a) t))
-  where
-    go : b < suc a → b ≤ a
-    go h = omega arith
+lt-suc′ (negsuc (suc a)) (negsuc b) t = let h = ltb→lt b (suc a) t in le→leb b a (omega arith)
 
 suc-lt′ : (a b : ℤ) → T (leZ (sucℤ a) b) → T (ltZ a b)
 suc-lt′ (pos a) (pos b) t = t
@@ -71,10 +61,7 @@ suc-lt′ (pos a) (negsuc b) t = t
 suc-lt′ (negsuc zero) (pos b) t = tt
 suc-lt′ (negsuc zero) (negsuc b) t = absurd t
 suc-lt′ (negsuc (suc a)) (pos b) t = tt
-suc-lt′ (negsuc (suc a)) (negsuc b) t = lt→ltb b (suc a) (go (leb→le b a t))
-  where
-    go : b ≤ a → b < suc a
-    go h = omega arith
+suc-lt′ (negsuc (suc a)) (negsuc b) t = let h = leb→le b a t in lt→ltb b (suc a) (omega arith)
 
 pub lt-dest : {a b : ℤ} → a <ℤ b → (n : ℕ) × (b ≡ a +ℤ pos (suc n))
 lt-dest {a} {b} h = go (dest (sucℤ a) b (lt-suc′ a b (h .lt)))
@@ -151,7 +138,7 @@ pub ≤-trans : {a b c : ℤ} → a ≤ℤ b → b ≤ℤ c → a ≤ℤ c
 ≤-trans {a} {b} {c} h k = le-cert _ (nn-add (le-nn h) (le-nn k)) (reify (a ∷ b ∷ c ∷ []) (λ ρ v. simp (reading, v 0, v 1, v 2) (solve _ _ _ tt)))
 
 pub <-≤-trans : {a b c : ℤ} → a <ℤ b → b ≤ℤ c → a <ℤ c
-<-≤-trans {a} {b} {c} h k = lt-cert _ (pp-add (lt-pp h) (le-nn k)) (reify (a ∷ b ∷ c ∷ []) (λ ρ v. simp (reading, v 0, v 1, v 2) (solve _ _ _ tt)))
+<-≤-trans h k = <ℤ-≤ℤ-trans h k
 
 pub ≤-<-trans : {a b c : ℤ} → a ≤ℤ b → b <ℤ c → a <ℤ c
 ≤-<-trans {a} {b} {c} h k = lt-cert _ (pp-add (lt-pp k) (le-nn h)) (reify (a ∷ b ∷ c ∷ []) (λ ρ v. simp (reading, v 0, v 1, v 2) (solve _ _ _ tt)))

@@ -63,10 +63,7 @@ first-neg (negsuc n) t = refl
 
 pub first-zero : (s t : ℤ) → first s t ≡ pos 0 → (s ≡ pos 0) × (t ≡ pos 0)
 first-zero (pos zero) t e = (refl, e)
-first-zero (pos (suc n)) t e = (e, absurd (clash (ap natAbs e)))
-  where
-    clash : suc n ≡ 0 → ⊥
-    clash e = omega arith
+first-zero (pos (suc n)) t e = let z : suc n ≡ 0 = ap natAbs e in absurd (omega arith)
 first-zero (negsuc n) t e = absurd (pos-ne-negsuc 0 n (sym e))
 
 pub first-zero-right : (s : ℤ) → first s (pos 0) ≡ s

@@ -12,10 +12,10 @@ use mathlib.Core.List.{[], _∷_}
 use Prim.Native.Nat.{ℕ, zero, suc}
 use native.Mathlib.Omega.{arith}
 use lib.IntN.{ℤ, pos, negsuc, negℤ, natAbs, _*ℤ_, negℤ-negℤ, zero-*ℤ, *ℤ-zero, pos-ne-negsuc}
-use lib.Signed.{_≤ℤ_, _<ℤ_}
+use lib.Signed.{_≤ℤ_, _<ℤ_, yes-nonNeg, pos-natAbs}
 use Rattle.whole.specs.Laws.{neg-mul, mul-one, one-mul, minus-one-mul}
 use Rattle.whole.specs.Ring.{var, lit, _⊗_, ⊝_, ring}
-use Rattle.whole.specs.Order.{nn-dest, pp-dest, pp-mul, pp-pos, <-neg, Tri, tri, less, same, more}
+use Rattle.whole.specs.Order.{pp-dest, pp-mul, pp-pos, <-neg, Tri, tri, less, same, more}
 use Rattle.whole.specs.Sign.{sgn}
 
 pub sgn-pos : {z : ℤ} → pos 0 <ℤ z → sgn z ≡ pos 1
@@ -117,7 +117,7 @@ sgn-abs (pos (suc n)) = one-mul (pos (suc n))
 sgn-abs (negsuc n) = minus-one-mul (pos (suc n))
 
 pub nn-size : {z : ℤ} → pos 0 ≤ℤ z → z ≡ pos (natAbs z)
-nn-size h = let n = nn-dest h in n .1 ∙ ap (λ (x : ℤ). pos (natAbs x)) (sym (n .1))
+nn-size {z} h = sym (pos-natAbs z (yes-nonNeg h))
 
 pub neg-size : {z : ℤ} → z <ℤ pos 0 → negℤ z ≡ pos (natAbs z)
 neg-size {z} h = sym (ap (λ (s : ℤ). s *ℤ z) (sgn-neg h) ∙ minus-one-mul z) ∙ sgn-mul-self z
