@@ -208,16 +208,10 @@ begins-fine top = corner-fine (pos 1) (pos 1) refl refl
 
 -- k = dx py - dy px = qx py - qy px
 pub moment-is : (p q : Vec) → moment p (p ⇀ q) ≡ q .x *ℤ p .y -ℤ q .y *ℤ p .x
-moment-is p q = go (p .x) (p .y) (q .x) (q .y)
-  where
-    go : (px py qx qy : ℤ) → (qx -ℤ px) *ℤ py -ℤ (qy -ℤ py) *ℤ px ≡ qx *ℤ py -ℤ qy *ℤ px
-    go px py qx qy = reify (px ∷ py ∷ qx ∷ qy ∷ []) (λ ρ v. simp (reading, v 0, v 1, v 2, v 3) (solve _ _ _ tt))
+moment-is p q = reify (p .x ∷ p .y ∷ q .x ∷ q .y ∷ []) (λ ρ v. simp (reading, v 0, v 1, v 2, v 3) (solve _ _ _ tt))
 
 pub moment-reverse : (p d : Vec) → moment p (reverse d) ≡ negℤ (moment p d)
-moment-reverse p d = go (p .x) (p .y) (d .x) (d .y)
-  where
-    go : (px py dx dy : ℤ) → negℤ dx *ℤ py -ℤ negℤ dy *ℤ px ≡ negℤ (dx *ℤ py -ℤ dy *ℤ px)
-    go px py dx dy = reify (px ∷ py ∷ dx ∷ dy ∷ []) (λ ρ v. simp (reading, v 0, v 1, v 2, v 3) (solve _ _ _ tt))
+moment-reverse p d = reify (p .x ∷ p .y ∷ d .x ∷ d .y ∷ []) (λ ρ v. simp (reading, v 0, v 1, v 2, v 3) (solve _ _ _ tt))
 
 pub proper-way : {p q : Vec} → Proper p q → Way ((p ⇀ q) .x) ((p ⇀ q) .y) (moment p (p ⇀ q))
 proper-way {p} {q} h = record {

@@ -11,8 +11,8 @@ use mathlib.Core.List.{[], _∷_}
 use lib.IntN.{ℤ, pos, negsuc, negℤ, _+ℤ_, _-ℤ_, _*ℤ_, *ℤ-zero, ℤ-discrete}
 use lib.Signed.{_<ℤ_}
 use Rattle.whole.specs.Laws.{mul-assoc, sub-self}
-use Rattle.whole.specs.Ring.{var, lit, _⊕_, _⊖_, _⊗_, ⊝_, ring}
-use Rattle.whole.specs.Reify.{reify, reading, solve, val-pos}
+use Rattle.whole.specs.Ring.{var, lit, _⊖_, _⊗_, ⊝_, ring}
+use Rattle.whole.specs.Reify.{reify, reading, solve, val-pos, val-negsuc}
 use Rattle.whole.specs.Cert.{z-eq, z-add, eq-cert, zero-cancel}
 use Rattle.whole.specs.Sign.{sgn}
 use Rattle.whole.specs.SignLaws.{sgn-zero, sgn-abs, sgn-mul-self, size-above}
@@ -77,21 +77,14 @@ on-line-divided {p} {d} {e} above h =
 -- the arrow the other way
 pub on-line-back : {p d : Vec} {e : Point} → OnLine p (reverse d) e → OnLine p d e
 on-line-back {p} {d} {e} h = record {
-  level = eq-cert _ (z-eq (negsuc 0) (h .level)) (turned (d .x) (d .y) (e .my) (e .mx));
-  even = eq-cert _ (z-eq (negsuc 0) (h .even)) (turned-even (d .x) (d .y) (e .ny) (e .nx) (e .w) (p .x) (p .y));
+  level =
+      eq-cert _ (z-eq (negsuc 0) (h .level))
+      (reify (d .x ∷ d .y ∷ e .mx ∷ e .my ∷ []) (λ ρ v. simp (reading, val-pos ρ, val-negsuc ρ, v 0, v 1, v 2, v 3) (solve _ _ _ tt)));
+  even =
+      eq-cert _ (z-eq (negsuc 0) (h .even))
+      (reify (d .x ∷ d .y ∷ e .nx ∷ e .ny ∷ e .w ∷ p .x ∷ p .y ∷ [])
+      (λ ρ v. simp (reading, val-pos ρ, val-negsuc ρ, v 0, v 1, v 2, v 3, v 4, v 5, v 6) (solve _ _ _ tt)));
 }
-  where
-    turned : (a b x y : ℤ) → a *ℤ x -ℤ b *ℤ y -ℤ pos 0 ≡ negsuc 0 *ℤ (negℤ a *ℤ x -ℤ negℤ b *ℤ y -ℤ pos 0)
-    turned a b x y =
-        ring (a ∷ b ∷ x ∷ y ∷ []) (var 0 ⊗ var 2 ⊖ var 1 ⊗ var 3 ⊖ lit 0)
-        (⊝ lit 1 ⊗ (⊝ var 0 ⊗ var 2 ⊖ ⊝ var 1 ⊗ var 3 ⊖ lit 0)) tt
-
-    turned-even : (a b x y w px py : ℤ) →
-        a *ℤ x -ℤ b *ℤ y -ℤ w *ℤ (a *ℤ py -ℤ b *ℤ px) -ℤ pos 0
-        ≡ negsuc 0 *ℤ (negℤ a *ℤ x -ℤ negℤ b *ℤ y -ℤ w *ℤ (negℤ a *ℤ py -ℤ negℤ b *ℤ px) -ℤ pos 0)
-    turned-even a b x y w px py =
-        ring (a ∷ b ∷ x ∷ y ∷ w ∷ px ∷ py ∷ []) (var 0 ⊗ var 2 ⊖ var 1 ⊗ var 3 ⊖ var 4 ⊗ (var 0 ⊗ var 6 ⊖ var 1 ⊗ var 5) ⊖ lit 0)
-        (⊝ lit 1 ⊗ (⊝ var 0 ⊗ var 2 ⊖ ⊝ var 1 ⊗ var 3 ⊖ var 4 ⊗ (⊝ var 0 ⊗ var 6 ⊖ ⊝ var 1 ⊗ var 5) ⊖ lit 0)) tt
 
 -- ---- the far end is on the line
 
@@ -152,54 +145,35 @@ parallel d f u n h k = go (ℤ-discrete (d .x) (pos 0))
         zero-cancel (size a) (size-above n)
         (ap (λ (w : ℤ). w *ℤ z) (sym (sgn-mul-self a)) ∙ mul-assoc (sgn a) a z ∙ ap (λ (w : ℤ). sgn a *ℤ w) e ∙ *ℤ-zero (sgn a))
 
-    by-x : (dx dy fx fy ux uy : ℤ) →
-        dx *ℤ (fx *ℤ uy -ℤ fy *ℤ ux) -ℤ pos 0 ≡ fx *ℤ (dx *ℤ uy -ℤ dy *ℤ ux -ℤ pos 0) +ℤ negℤ ux *ℤ (dx *ℤ fy -ℤ dy *ℤ fx -ℤ pos 0)
-    by-x dx dy fx fy ux uy =
-        reify (dx ∷ dy ∷ fx ∷ fy ∷ ux ∷ uy ∷ []) (λ ρ v. simp (reading, val-pos ρ, v 0, v 1, v 2, v 3, v 4, v 5) (solve _ _ _ tt))
-
-    by-y : (dx dy fx fy ux uy : ℤ) →
-        dy *ℤ (fx *ℤ uy -ℤ fy *ℤ ux) -ℤ pos 0 ≡ fy *ℤ (dx *ℤ uy -ℤ dy *ℤ ux -ℤ pos 0) +ℤ negℤ uy *ℤ (dx *ℤ fy -ℤ dy *ℤ fx -ℤ pos 0)
-    by-y dx dy fx fy ux uy =
-        reify (dx ∷ dy ∷ fx ∷ fy ∷ ux ∷ uy ∷ []) (λ ρ v. simp (reading, val-pos ρ, v 0, v 1, v 2, v 3, v 4, v 5) (solve _ _ _ tt))
-
     go : Dec (d .x ≡ pos 0) → cross f u ≡ pos 0
     go (no m) =
         out (d .x) (cross f u) m
-        (eq-cert _ (z-add (z-eq (f .x) k) (z-eq (negℤ (u .x)) h)) (by-x (d .x) (d .y) (f .x) (f .y) (u .x) (u .y)))
+        (eq-cert _ (z-add (z-eq (f .x) k) (z-eq (negℤ (u .x)) h))
+        (reify (d .x ∷ d .y ∷ f .x ∷ f .y ∷ u .x ∷ u .y ∷ []) (λ ρ v. simp (reading, val-pos ρ, v 0, v 1, v 2, v 3, v 4, v 5) (solve _ _ _ tt))))
     go (yes e) =
         out (d .y) (cross f u) (n e)
-        (eq-cert _ (z-add (z-eq (f .y) k) (z-eq (negℤ (u .y)) h)) (by-y (d .x) (d .y) (f .x) (f .y) (u .x) (u .y)))
+        (eq-cert _ (z-add (z-eq (f .y) k) (z-eq (negℤ (u .y)) h))
+        (reify (d .x ∷ d .y ∷ f .x ∷ f .y ∷ u .x ∷ u .y ∷ []) (λ ρ v. simp (reading, val-pos ρ, v 0, v 1, v 2, v 3, v 4, v 5) (solve _ _ _ tt))))
 
 -- r is on the line of p and d, and f is parallel to it: what is on the one line is on the other
 pub carried : (p d r f a : Vec) → (d .x ≡ pos 0 → d .y ≡ pos 0 → ⊥) → cross d f ≡ pos 0 → cross d (p ⇀ r) ≡ pos 0 → cross d (p ⇀ a) ≡ pos 0
     → cross f (r ⇀ a) ≡ pos 0
 carried p d r f a n h k l =
     parallel d f (r ⇀ a) n h
-    (eq-cert _ (z-add (z-eq (pos 1) l) (z-eq (negsuc 0) k)) (go (d .x) (d .y) (p .x) (p .y) (r .x) (r .y) (a .x) (a .y)))
-  where
-    go : (dx dy px py rx ry ax ay : ℤ) →
-        dx *ℤ (ay -ℤ ry) -ℤ dy *ℤ (ax -ℤ rx) -ℤ pos 0
-        ≡ pos 1 *ℤ (dx *ℤ (ay -ℤ py) -ℤ dy *ℤ (ax -ℤ px) -ℤ pos 0) +ℤ negsuc 0 *ℤ (dx *ℤ (ry -ℤ py) -ℤ dy *ℤ (rx -ℤ px) -ℤ pos 0)
-    go dx dy px py rx ry ax ay =
-        ring (dx ∷ dy ∷ px ∷ py ∷ rx ∷ ry ∷ ax ∷ ay ∷ []) (var 0 ⊗ (var 7 ⊖ var 5) ⊖ var 1 ⊗ (var 6 ⊖ var 4) ⊖ lit 0)
-        (lit 1 ⊗ (var 0 ⊗ (var 7 ⊖ var 3) ⊖ var 1 ⊗ (var 6 ⊖ var 2) ⊖ lit 0)
-        ⊕ ⊝ lit 1 ⊗ (var 0 ⊗ (var 5 ⊖ var 3) ⊖ var 1 ⊗ (var 4 ⊖ var 2) ⊖ lit 0)) tt
+    (eq-cert _ (z-add (z-eq (pos 1) l) (z-eq (negsuc 0) k))
+    (reify (d .x ∷ d .y ∷ p .x ∷ p .y ∷ r .x ∷ r .y ∷ a .x ∷ a .y ∷ [])
+    (λ ρ v. simp (reading, val-pos ρ, val-negsuc ρ, v 0, v 1, v 2, v 3, v 4, v 5, v 6, v 7) (solve _ _ _ tt))))
 
 pub cross-self : (d p : Vec) → cross d (p ⇀ p) ≡ pos 0
-cross-self d p = go (d .x) (d .y) (p .x) (p .y)
-  where
-    go : (dx dy px py : ℤ) → dx *ℤ (py -ℤ py) -ℤ dy *ℤ (px -ℤ px) ≡ pos 0
-    go dx dy px py = ring (dx ∷ dy ∷ px ∷ py ∷ []) (var 0 ⊗ (var 3 ⊖ var 3) ⊖ var 1 ⊗ (var 2 ⊖ var 2)) (lit 0) tt
+cross-self d p = reify (d .x ∷ d .y ∷ p .x ∷ p .y ∷ []) (λ ρ v. simp (reading, val-pos ρ, v 0, v 1, v 2, v 3) (solve _ _ _ tt))
 
 pub cross-same : (d : Vec) → cross d d ≡ pos 0
-cross-same d = ring (d .x ∷ d .y ∷ []) (var 0 ⊗ var 1 ⊖ var 1 ⊗ var 0) (lit 0) tt
+cross-same d = reify (d .x ∷ d .y ∷ []) (λ ρ v. simp (reading, val-pos ρ, v 0, v 1) (solve _ _ _ tt))
 
 pub cross-turned : (d f : Vec) → cross d f ≡ pos 0 → cross f d ≡ pos 0
-cross-turned d f h = eq-cert _ (z-eq (negsuc 0) h) (go (d .x) (d .y) (f .x) (f .y))
-  where
-    go : (dx dy fx fy : ℤ) → fx *ℤ dy -ℤ fy *ℤ dx -ℤ pos 0 ≡ negsuc 0 *ℤ (dx *ℤ fy -ℤ dy *ℤ fx -ℤ pos 0)
-    go dx dy fx fy =
-        ring (dx ∷ dy ∷ fx ∷ fy ∷ []) (var 2 ⊗ var 1 ⊖ var 3 ⊗ var 0 ⊖ lit 0) (⊝ lit 1 ⊗ (var 0 ⊗ var 3 ⊖ var 1 ⊗ var 2 ⊖ lit 0)) tt
+cross-turned d f h =
+    eq-cert _ (z-eq (negsuc 0) h)
+    (reify (d .x ∷ d .y ∷ f .x ∷ f .y ∷ []) (λ ρ v. simp (reading, val-pos ρ, val-negsuc ρ, v 0, v 1, v 2, v 3) (solve _ _ _ tt)))
 
 -- ---- the sides of the frame
 

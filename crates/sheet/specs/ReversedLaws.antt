@@ -7,13 +7,13 @@
 use mathlib.Core.Path.{_≡_, sym, _∙_, ap}
 use mathlib.Core.Logic.{_⊎_, inl, inr}
 use mathlib.Core.List.{[], _∷_}
-use lib.IntN.{ℤ, pos, negℤ, _-ℤ_, _*ℤ_}
+use lib.IntN.{ℤ, pos, negℤ, _-ℤ_}
 use Rattle.whole.specs.Reify.{reify, reading, solve}
 use Rattle.sheet.specs.declared.Object.{Object}
 use Rattle.sheet.specs.declared.Point.{Point}
 use Rattle.sheet.specs.Figure.{Vec, _⇀_, first, second}
 use Rattle.sheet.specs.Points.{given, divided}
-use Rattle.sheet.specs.Ends.{farRaw, farEnd, reverse, firstOf, lastOf, firstEnd, lastEnd}
+use Rattle.sheet.specs.Ends.{moment, farRaw, farEnd, reverse, firstOf, lastOf, firstEnd, lastEnd}
 use Rattle.sheet.specs.Signs.{sideSign}
 use Rattle.sheet.specs.RefusalLaws.{kind-segment, kind-line}
 use Rattle.sheet.specs.Expansions.{side-of-figure}
@@ -25,13 +25,13 @@ reversed o = record { kind = o .kind; px = o .qx; py = o .qy; qx = o .px; qy = o
 -- the far end from q toward p, reversed, is that from p toward q: d is the same, and so is k
 pub far-same : (p q : Vec) → farEnd q (reverse (q ⇀ p)) ≡ farEnd p (p ⇀ q)
 unfolding farEnd
-far-same p q = λ i. divided (farRaw (back (p .x) (q .x) i) (back (p .y) (q .y) i) (k (p .x) (p .y) (q .x) (q .y) i))
+far-same p q = λ i. divided (farRaw (back (p .x) (q .x) i) (back (p .y) (q .y) i) (k i))
   where
     back : (a b : ℤ) → negℤ (a -ℤ b) ≡ b -ℤ a
     back a b = reify (a ∷ b ∷ []) (λ ρ v. simp (reading, v 0, v 1) (solve _ _ _ tt))
 
-    k : (px py qx qy : ℤ) → negℤ (px -ℤ qx) *ℤ qy -ℤ negℤ (py -ℤ qy) *ℤ qx ≡ (qx -ℤ px) *ℤ py -ℤ (qy -ℤ py) *ℤ px
-    k px py qx qy = reify (px ∷ py ∷ qx ∷ qy ∷ []) (λ ρ v. simp (reading, v 0, v 1, v 2, v 3) (solve _ _ _ tt))
+    k : moment q (reverse (q ⇀ p)) ≡ moment p (p ⇀ q)
+    k = reify (p .x ∷ p .y ∷ q .x ∷ q .y ∷ []) (λ ρ v. simp (reading, v 0, v 1, v 2, v 3) (solve _ _ _ tt))
 
 pub reversed-ends : (o : Object) → (o .kind ≡ pos 1) ⊎ (o .kind ≡ pos 3)
     → (firstEnd (reversed o) ≡ lastEnd o) × (lastEnd (reversed o) ≡ firstEnd o)
