@@ -27,6 +27,19 @@ use Rattle.sheet.specs.PointsLaws.{divided-back, divisor-above}
 use Rattle.sheet.specs.EndsLaws.{Far, far, flatter, steeper, tie-flat, tie-steep, Way, far-frame}
 use Rattle.sheet.specs.Expansions.{pair-side-is, frame-side-is}
 
+-- ---- cross products that are 0
+
+pub cross-self : (d p : Vec) → cross d (p ⇀ p) ≡ pos 0
+cross-self d p = reify (d .x ∷ d .y ∷ p .x ∷ p .y ∷ []) (λ ρ v. simp (reading, val-pos ρ, v 0, v 1, v 2, v 3) (solve _ _ _ tt))
+
+pub cross-same : (d : Vec) → cross d d ≡ pos 0
+cross-same d = reify (d .x ∷ d .y ∷ []) (λ ρ v. simp (reading, val-pos ρ, v 0, v 1) (solve _ _ _ tt))
+
+pub cross-turned : (d f : Vec) → cross d f ≡ pos 0 → cross f d ≡ pos 0
+cross-turned d f h =
+    eq-cert _ (z-eq (negsuc 0) h)
+    (reify (d .x ∷ d .y ∷ f .x ∷ f .y ∷ []) (λ ρ v. simp (reading, val-pos ρ, val-negsuc ρ, v 0, v 1, v 2, v 3) (solve _ _ _ tt)))
+
 -- ---- points on a line
 
 -- both coefficients of the turn are 0
@@ -88,30 +101,24 @@ on-line-back {p} {d} {e} h = record {
 
 -- ---- the far end is on the line
 
-module _ (dx dy k : ℤ) where
+module _ (p d : Vec) where
   -- sx |dx| = dx and sx dx = |dx|
-  flat-level : dx *ℤ dy -ℤ dy *ℤ (sgn dx *ℤ size dx) ≡ pos 0
-  flat-level = eq-cert _ (z-eq (negℤ dy) (sgn-abs dx)) (go dx dy (sgn dx *ℤ size dx))
-    where
-      go : (a b m : ℤ) → a *ℤ b -ℤ b *ℤ m -ℤ pos 0 ≡ negℤ b *ℤ (m -ℤ a)
-      go a b m = reify (a ∷ b ∷ m ∷ []) (λ ρ v. simp (reading, val-pos ρ, v 0, v 1, v 2) (solve _ _ _ tt))
-
-  flat-even : dx *ℤ (sgn dx *ℤ k) -ℤ dy *ℤ pos 0 -ℤ size dx *ℤ k ≡ pos 0
-  flat-even = eq-cert _ (z-eq k (sgn-mul-self dx)) (go dx dy (sgn dx) k (size dx))
+  on-flat : OnLine p d (flat (d .x) (d .y) (moment p d))
+  on-flat = record {
+    level = ap (λ (m : ℤ). d .x *ℤ d .y -ℤ d .y *ℤ m) (sgn-abs (d .x)) ∙ cross-same d;
+    even = eq-cert _ (z-eq (moment p d) (sgn-mul-self (d .x))) (go (d .x) (d .y) (sgn (d .x)) (moment p d) (size (d .x)));
+  }
     where
       go : (a b s k w : ℤ) → a *ℤ (s *ℤ k) -ℤ b *ℤ pos 0 -ℤ w *ℤ k -ℤ pos 0 ≡ k *ℤ (s *ℤ a -ℤ w)
       go a b s k w =
           ring (a ∷ b ∷ s ∷ k ∷ w ∷ []) (var 0 ⊗ (var 2 ⊗ var 3) ⊖ var 1 ⊗ lit 0 ⊖ var 4 ⊗ var 3 ⊖ lit 0)
           (var 3 ⊗ (var 2 ⊗ var 0 ⊖ var 4)) tt
 
-  steep-level : dx *ℤ (sgn dy *ℤ size dy) -ℤ dy *ℤ dx ≡ pos 0
-  steep-level = eq-cert _ (z-eq dx (sgn-abs dy)) (go dx dy (sgn dy *ℤ size dy))
-    where
-      go : (a b m : ℤ) → a *ℤ m -ℤ b *ℤ a -ℤ pos 0 ≡ a *ℤ (m -ℤ b)
-      go a b m = reify (a ∷ b ∷ m ∷ []) (λ ρ v. simp (reading, val-pos ρ, v 0, v 1, v 2) (solve _ _ _ tt))
-
-  steep-even : dx *ℤ pos 0 -ℤ dy *ℤ negℤ (sgn dy *ℤ k) -ℤ size dy *ℤ k ≡ pos 0
-  steep-even = eq-cert _ (z-eq k (sgn-mul-self dy)) (go dx dy (sgn dy) k (size dy))
+  on-steep : OnLine p d (steep (d .x) (d .y) (moment p d))
+  on-steep = record {
+    level = ap (λ (m : ℤ). d .x *ℤ m -ℤ d .y *ℤ d .x) (sgn-abs (d .y)) ∙ cross-same d;
+    even = eq-cert _ (z-eq (moment p d) (sgn-mul-self (d .y))) (go (d .x) (d .y) (sgn (d .y)) (moment p d) (size (d .y)));
+  }
     where
       go : (a b s k w : ℤ) → a *ℤ pos 0 -ℤ b *ℤ negℤ (s *ℤ k) -ℤ w *ℤ k -ℤ pos 0 ≡ k *ℤ (s *ℤ b -ℤ w)
       go a b s k w =
@@ -122,17 +129,11 @@ pub far-on-line : (p d : Vec) → Way (d .x) (d .y) (moment p d) → OnLine p d 
 unfolding farEnd
 far-on-line p d h = on-line-divided (far-frame (d .x) (d .y) (moment p d) h .slim .in-w .above) (go (far (d .x) (d .y) (moment p d)))
   where
-    on-flat : OnLine p d (flat (d .x) (d .y) (moment p d))
-    on-flat = record { level = flat-level (d .x) (d .y) (moment p d); even = flat-even (d .x) (d .y) (moment p d) }
-
-    on-steep : OnLine p d (steep (d .x) (d .y) (moment p d))
-    on-steep = record { level = steep-level (d .x) (d .y) (moment p d); even = steep-even (d .x) (d .y) (moment p d) }
-
     go : Far (d .x) (d .y) (moment p d) → OnLine p d (farRaw (d .x) (d .y) (moment p d))
-    go (flatter l e) = subst (OnLine p d) (sym e) on-flat
-    go (steeper l e) = subst (OnLine p d) (sym e) on-steep
-    go (tie-flat z t e) = subst (OnLine p d) (sym e) on-flat
-    go (tie-steep z t e) = subst (OnLine p d) (sym e) on-steep
+    go (flatter l e) = subst (OnLine p d) (sym e) (on-flat p d)
+    go (steeper l e) = subst (OnLine p d) (sym e) (on-steep p d)
+    go (tie-flat z t e) = subst (OnLine p d) (sym e) (on-flat p d)
+    go (tie-steep z t e) = subst (OnLine p d) (sym e) (on-steep p d)
 
 -- ---- one line by two pairs of p and d
 
@@ -163,17 +164,6 @@ carried p d r f a n h k l =
     (eq-cert _ (z-add (z-eq (pos 1) l) (z-eq (negsuc 0) k))
     (reify (d .x ∷ d .y ∷ p .x ∷ p .y ∷ r .x ∷ r .y ∷ a .x ∷ a .y ∷ [])
     (λ ρ v. simp (reading, val-pos ρ, val-negsuc ρ, v 0, v 1, v 2, v 3, v 4, v 5, v 6, v 7) (solve _ _ _ tt))))
-
-pub cross-self : (d p : Vec) → cross d (p ⇀ p) ≡ pos 0
-cross-self d p = reify (d .x ∷ d .y ∷ p .x ∷ p .y ∷ []) (λ ρ v. simp (reading, val-pos ρ, v 0, v 1, v 2, v 3) (solve _ _ _ tt))
-
-pub cross-same : (d : Vec) → cross d d ≡ pos 0
-cross-same d = reify (d .x ∷ d .y ∷ []) (λ ρ v. simp (reading, val-pos ρ, v 0, v 1) (solve _ _ _ tt))
-
-pub cross-turned : (d f : Vec) → cross d f ≡ pos 0 → cross f d ≡ pos 0
-cross-turned d f h =
-    eq-cert _ (z-eq (negsuc 0) h)
-    (reify (d .x ∷ d .y ∷ f .x ∷ f .y ∷ []) (λ ρ v. simp (reading, val-pos ρ, val-negsuc ρ, v 0, v 1, v 2, v 3) (solve _ _ _ tt)))
 
 -- ---- the sides of the frame
 
