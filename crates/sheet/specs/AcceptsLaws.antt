@@ -39,10 +39,8 @@ turn-taken p q s h =
     let f = or-zero (pointRefusal p) _ h in
     let g = or-zero (pointRefusal q) _ (f .1) in
     let k = or-zero (pointRefusal s) (wideRefusal p q s) (g .1) in
-    let n = passed (narrow p && narrow q && narrow s) {n = 6} (λ e. omega arith) (k .1) in
-    let pq-s = both (narrow p && narrow q) (narrow s) .0 n in
-    let p-q = both (narrow p) (narrow q) .0 (pq-s .0) in
-    (point-taken p (f .0), point-taken q (g .0), point-taken s (k .0), p-q .0, p-q .1, pq-s .1)
+    let n = simp both at (passed (narrow p && narrow q && narrow s) {n = 6} (λ e. omega arith) (k .1)) in
+    (point-taken p (f .0), point-taken q (g .0), point-taken s (k .0), n .0 .0, n .0 .1, n .1)
 
 pub side-taken : (o : Object) (s : Point) → sideSignRefusal o s ≡ pos 0 → Accepted o × (isPoint s ≡ true)
 unfolding sideSignRefusal
