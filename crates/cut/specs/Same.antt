@@ -9,9 +9,9 @@
 --   online-same, upto-same, same-upto-left, square-same, side-same, on-same   what holds of a spot holds of the same spot
 --   of-segment, of-ray, of-line, of-side   what it is to be on a figure of each kind
 -- Assumes nothing of R.
-use mathlib.Core.Path.{_≡_, sym, _∙_, ap}
-use mathlib.Core.List.{[], _∷_}
-use lib.IntN.{ℤ, pos, negℤ, _+ℤ_, _*ℤ_, *ℤ-comm}
+use mathlib.Core.Path.{_≡_, sym}
+use mathlib.Core.List.{List, [], _∷_}
+use lib.IntN.{ℤ, pos, negℤ, _+ℤ_, _*ℤ_}
 use lib.Signed.{_<ℤ_}
 use Rattle.whole.specs.Ring.{var, con, _⊕_, _⊗_, ring}
 use Rattle.whole.specs.Reify.{reify, reading, solve, val-pos}
@@ -52,40 +52,33 @@ same-trans {S} {T} {U} e f = record {
 
 -- ---- the spots of places are the same just where the places are
 
--- a v = b u is (a m) (v n) = (b n) (u m), over the other denominators m and n
-widen : (a u b v m n : ℤ) → a *ℤ v ≡ b *ℤ u → a *ℤ m *ℤ (v *ℤ n) ≡ b *ℤ n *ℤ (u *ℤ m)
-widen a u b v m n e =
-    eq-cert _ (z-eq (m *ℤ n) e) (reify (a ∷ u ∷ b ∷ v ∷ m ∷ n ∷ []) (λ ρ v. simp (reading, v 0, v 1, v 2, v 3, v 4, v 5) (solve _ _ _ tt)))
-
-narrow : (a u b v m n : ℤ) → pos 0 <ℤ m → pos 0 <ℤ n → a *ℤ m *ℤ (v *ℤ n) ≡ b *ℤ n *ℤ (u *ℤ m) → a *ℤ v ≡ b *ℤ u
-narrow a u b v m n hm hn e =
-    eq-by (m *ℤ n) (pp-mul hm hn) _ (z-eq (pos 1) e)
-    (reify (a ∷ u ∷ b ∷ v ∷ m ∷ n ∷ []) (λ ρ v. simp (reading, v 0, v 1, v 2, v 3, v 4, v 5, val-pos ρ) (solve _ _ _ tt)))
-
 module _ (P Q : Place) where
+  abbrev eight : List ℤ
+  eight =
+      P .across .num ∷ P .across .den ∷ P .up .num ∷ P .up .den ∷ Q .across .num ∷ Q .across .den ∷ Q .up .num ∷ Q .up .den ∷ []
+
   pub same-place : Same (spot P) (spot Q) → SamePlace P Q
   same-place e = record {
     same-across = record {
       equal =
-          narrow (P .across .num) (P .across .den) (Q .across .num) (Q .across .den) (P .up .den) (Q .up .den)
-          (P .up .above) (Q .up .above) (e .same-x);
+          eq-by (P .up .den *ℤ Q .up .den) (pp-mul (P .up .above) (Q .up .above)) _ (z-eq (pos 1) (e .same-x))
+          (reify eight (λ ρ v. simp (reading, v 0, v 1, v 3, v 4, v 5, v 7, val-pos ρ) (solve _ _ _ tt)));
     };
     same-up = record {
       equal =
-          narrow (P .up .num) (P .up .den) (Q .up .num) (Q .up .den) (P .across .den) (Q .across .den)
-          (P .across .above) (Q .across .above)
-          (ap (λ (z : ℤ). P .up .num *ℤ P .across .den *ℤ z) (*ℤ-comm (Q .up .den) (Q .across .den)) ∙ e .same-y
-          ∙ ap (λ (z : ℤ). Q .up .num *ℤ Q .across .den *ℤ z) (*ℤ-comm (P .across .den) (P .up .den)));
+          eq-by (P .across .den *ℤ Q .across .den) (pp-mul (P .across .above) (Q .across .above)) _ (z-eq (pos 1) (e .same-y))
+          (reify eight (λ ρ v. simp (reading, v 1, v 2, v 3, v 5, v 6, v 7, val-pos ρ) (solve _ _ _ tt)));
     };
   }
 
   pub same-spot : SamePlace P Q → Same (spot P) (spot Q)
   same-spot e = record {
-    same-x = widen (P .across .num) (P .across .den) (Q .across .num) (Q .across .den) (P .up .den) (Q .up .den) (e .same-across .equal);
+    same-x =
+        eq-cert _ (z-eq (P .up .den *ℤ Q .up .den) (e .same-across .equal))
+        (reify eight (λ ρ v. simp (reading, v 0, v 1, v 3, v 4, v 5, v 7) (solve _ _ _ tt)));
     same-y =
-        ap (λ (z : ℤ). P .up .num *ℤ P .across .den *ℤ z) (*ℤ-comm (Q .across .den) (Q .up .den))
-        ∙ widen (P .up .num) (P .up .den) (Q .up .num) (Q .up .den) (P .across .den) (Q .across .den) (e .same-up .equal)
-        ∙ ap (λ (z : ℤ). Q .up .num *ℤ Q .across .den *ℤ z) (*ℤ-comm (P .up .den) (P .across .den));
+        eq-cert _ (z-eq (P .across .den *ℤ Q .across .den) (e .same-up .equal))
+        (reify eight (λ ρ v. simp (reading, v 1, v 2, v 3, v 5, v 6, v 7) (solve _ _ _ tt)));
   }
 
 -- ---- the place of a point, over its one denominator
