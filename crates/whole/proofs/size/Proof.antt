@@ -11,7 +11,7 @@ use mir.Syntax.{w64}
 use mir.Val.{Fits, SFits}
 use Rattle.whole.specs.Order.{nn-dest}
 use Rattle.whole.specs.Bound.{fits64, w-pos}
-use Rattle.whole.specs.Tests.{out, out-is, lt-taken, lt-left}
+use Rattle.whole.specs.Tests.{out, out-is, fits-ok, lt-taken, lt-left}
 use Rattle.whole.proofs.size.Statement.{statement}
 use Rattle.whole.proofs.size.Tie as tie
 
@@ -28,9 +28,6 @@ plus-one : (n : ℕ) → negsuc n +ℤ pos 1 ≡ negℤ (pos n)
 plus-one zero = refl
 plus-one (suc n) = +ℤ-one (negsuc (suc n))
 
-fits-pos : (n : ℕ) → n < 2 ^ 63 → SFits w64 (pos n)
-fits-pos n h = record { sfits = h }
-
 fits-neg : (n : ℕ) → n < 2 ^ 63 → SFits w64 (negℤ (pos n))
 fits-neg zero h = record { sfits = h }
 fits-neg (suc n) h = record { sfits = omega arith }
@@ -43,7 +40,7 @@ steps-at n f =
     let e2 : pos 0 -ℤ out (out (negsuc n) +ℤ pos 1) ≡ pos n =
     +ℤ-idl (negℤ (out (out (negsuc n) +ℤ pos 1))) ∙ ap negℤ (out-is f1 ∙ e1) ∙ negℤ-negℤ (pos n)
     in
-    let f2 : SFits w64 (pos 0 -ℤ out (out (negsuc n) +ℤ pos 1)) = subst (SFits w64) (sym e2) (fits-pos n h) in
+    let f2 : SFits w64 (pos 0 -ℤ out (out (negsuc n) +ℤ pos 1)) = subst (SFits w64) (sym e2) (fits-ok (pos n) h) in
     record {
       n = n;
       small = h;
