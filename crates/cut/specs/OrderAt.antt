@@ -1,15 +1,14 @@
 -- Order at R is the ordinary order of the places, for every R above 512,000,000,000,000. To cite:
 --   order-at    order of two points: x first, then y, of their places
 use mathlib.Core.Path.{_≡_, refl, sym, ap₂, subst}
-use mathlib.Core.List.{[], _∷_}
-use lib.IntN.{ℤ, pos, _-ℤ_, _*ℤ_}
+use lib.IntN.{ℤ, pos, _*ℤ_}
 use lib.Signed.{_<ℤ_}
-use Rattle.whole.specs.Reify.{reify, reading, solve, val-pos}
 use Rattle.whole.specs.Laws.{eq-of-sub}
-use Rattle.whole.specs.Order.{lt-cert, lt-pp}
+use Rattle.whole.specs.Order.{lt-cert}
 use Rattle.whole.specs.Sign.{sgn}
 use Rattle.whole.specs.SignLaws.{Signs, signs, minus, nought, plus}
 use Rattle.whole.specs.Fraction.{Fraction, Equal, Less}
+use Rattle.whole.specs.FractionLaws.{apart, less-apart}
 use Rattle.whole.specs.Poly.{first}
 use Rattle.sheet.specs.declared.Point.{Point}
 use Rattle.sheet.specs.PointsLaws.{APoint}
@@ -21,16 +20,7 @@ use Rattle.cut.specs.Coordinate.{x-of, y-of, coordinate-at}
 
 -- ---- two fractions by the sign of their difference
 
-abbrev apart : Fraction → Fraction → ℤ
-apart a b = a .num *ℤ b .den -ℤ b .num *ℤ a .den
-
-is-less : (x y : ℤ) → (x -ℤ y) <ℤ pos 0 → x <ℤ y
-is-less x y h = lt-cert _ (lt-pp h) (reify (x ∷ y ∷ []) (λ ρ v. simp (reading, v 0, v 1, val-pos ρ) (solve _ _ _ tt)))
-
 module _ (a b : Fraction) where
-  less : apart a b <ℤ pos 0 → Less a b
-  less h = record { less = is-less (a .num *ℤ b .den) (b .num *ℤ a .den) h }
-
   more : pos 0 <ℤ apart a b → Less b a
   more h = record { less = lt-cert _ h refl }
 
@@ -52,9 +42,9 @@ ordered P Q = go (signs (apart (P .across) (Q .across))) (signs (apart (P .up) (
 
     go : Signs (apart (P .across) (Q .across)) → Signs (apart (P .up) (Q .up))
         → Ordered P Q (first (sgn (apart (P .across) (Q .across))) (sgn (apart (P .up) (Q .up))))
-    go (minus h e) u = by-x e (x-less (less (P .across) (Q .across) h))
+    go (minus h e) u = by-x e (x-less (less-apart (P .across) (Q .across) .1 h))
     go (plus h e) u = by-x e (x-more (more (P .across) (Q .across) h))
-    go (nought z e) (minus h f) = by-y e f (y-less (equal (P .across) (Q .across) z) (less (P .up) (Q .up) h))
+    go (nought z e) (minus h f) = by-y e f (y-less (equal (P .across) (Q .across) z) (less-apart (P .up) (Q .up) .1 h))
     go (nought z e) (plus h f) = by-y e f (y-more (equal (P .across) (Q .across) z) (more (P .up) (Q .up) h))
     go (nought z e) (nought y f) =
         by-y e f (same (record { same-across = equal (P .across) (Q .across) z; same-up = equal (P .up) (Q .up) y }))

@@ -12,14 +12,15 @@ use mathlib.Core.Logic.{_⊎_, inl, inr, _↔_}
 use mathlib.Core.Bool.{true}
 use mathlib.Core.List.{List, [], _∷_}
 use Prim.Native.Nat.{zero, suc}
-use lib.IntN.{ℤ, pos, negsuc, negℤ, _+ℤ_, _-ℤ_, _*ℤ_, negℤ-negℤ, *ℤ-comm, pos-ne-negsuc}
+use lib.IntN.{ℤ, pos, negsuc, negℤ, _-ℤ_, _*ℤ_, negℤ-negℤ, *ℤ-comm, pos-ne-negsuc}
 use lib.Signed.{_≤ℤ_, _<ℤ_, leZ-yes, ltZ-yes, clashℤ}
 use Rattle.whole.specs.Laws.{eq-of-sub, sub-self}
 use Rattle.whole.specs.Reify.{reify, reading, solve, val-pos}
-use Rattle.whole.specs.Order.{le-nn, lt-pp, nn-add, nn-mul, pp-add, pp-mul, pp-nn, pp-pos, le-or-lt}
-use Rattle.whole.specs.Cert.{le-by, lt-by}
+use Rattle.whole.specs.Order.{pp-pos, le-or-lt}
 use Rattle.whole.specs.Sign.{sgn}
 use Rattle.whole.specs.SignLaws.{Signs, signs, minus, nought, plus, sgn-pos, sgn-neg, sgn-neg-eq, sgn-zero, zero-of-sgn, neg-of-sgn}
+use Rattle.whole.specs.Fraction.{Fraction, AtMost}
+use Rattle.whole.specs.FractionLaws.{at-most-apart, less-apart, at-most-trans, less-at-most-trans}
 use Rattle.whole.specs.Poly.{Poly, value, _⊟_, _⊠_, first, leading}
 use Rattle.whole.specs.PolyLaws.{first-neg, first-zero, first-assoc, leading-opposite}
 use Rattle.whole.specs.Bound.{Within, w-sub, w-mul, w-pos, w-lit, w-sgn}
@@ -132,35 +133,24 @@ sgn-of-le z h = go (signs z)
     go (nought l e) = subst (λ (x : ℤ). x ≤ℤ pos 0) (sym e) (leZ-yes tt)
     go (plus l e) = clashℤ l h
 
+-- points are ordered as these fractions are
+abbrev fraction : (p : Point) → isPoint p ≡ true → Fraction
+fraction p h = record { num = key p; den = p .w; above = point-above p h }
+
+not-after : (p q : Point) (hp : isPoint p ≡ true) (hq : isPoint q ≡ true) → order p q ≤ℤ pos 0 → AtMost (fraction p hp) (fraction q hq)
+not-after p q hp hq h =
+    at-most-apart (fraction p hp) (fraction q hq) .1 (le-of-sgn _ (subst (λ (x : ℤ). x ≤ℤ pos 0) (order-value p q hp hq) h))
+
 module _ (p q s : Point) (hp : isPoint p ≡ true) (hq : isPoint q ≡ true) (hs : isPoint s ≡ true) where
-  -- the middle w times the difference over the outer two is a sum of the other two
-  middle : (kp kq ks u v w : ℤ) → v *ℤ (pos 0 -ℤ (kp *ℤ w -ℤ ks *ℤ u))
-      ≡ w *ℤ (pos 0 -ℤ (kp *ℤ v -ℤ kq *ℤ u)) +ℤ u *ℤ (pos 0 -ℤ (kq *ℤ w -ℤ ks *ℤ v))
-  middle kp kq ks u v w =
-      reify (kp ∷ kq ∷ ks ∷ u ∷ v ∷ w ∷ []) (λ ρ v. simp (reading, v 0, v 1, v 2, v 3, v 4, v 5, val-pos ρ) (solve _ _ _ tt))
-
-  not-after : order q s ≤ℤ pos 0 → (key q *ℤ s .w -ℤ key s *ℤ q .w) ≤ℤ pos 0
-  not-after h = le-of-sgn _ (subst (λ (x : ℤ). x ≤ℤ pos 0) (order-value q s hq hs) h)
-
   pub order-trans : order p q ≤ℤ pos 0 → order q s ≤ℤ pos 0 → order p s ≤ℤ pos 0
   order-trans h k =
       subst (λ (x : ℤ). x ≤ℤ pos 0) (sym (order-value p s hp hs))
-      (sgn-of-le _
-      (le-by (q .w) (point-above q hq) _
-      (nn-add
-      (nn-mul (pp-nn (point-above s hs)) (le-nn (le-of-sgn _ (subst (λ (x : ℤ). x ≤ℤ pos 0) (order-value p q hp hq) h))))
-      (nn-mul (pp-nn (point-above p hp)) (le-nn (not-after k))))
-      (middle (key p) (key q) (key s) (p .w) (q .w) (s .w))))
+      (sgn-of-le _ (at-most-apart (fraction p hp) (fraction s hs) .0 (at-most-trans (not-after p q hp hq h) (not-after q s hq hs k))))
 
   pub order-less-trans : order p q ≡ negsuc 0 → order q s ≤ℤ pos 0 → order p s ≡ negsuc 0
   order-less-trans h k =
-      order-value p s hp hs
-      ∙ sgn-neg
-      (lt-by (q .w) (pp-nn (point-above q hq)) _
-      (pp-add
-      (pp-mul (point-above s hs) (lt-pp (neg-of-sgn (sym (order-value p q hp hq) ∙ h))))
-      (nn-mul (pp-nn (point-above p hp)) (le-nn (not-after k))))
-      (middle (key p) (key q) (key s) (p .w) (q .w) (s .w)))
+      let l = less-apart (fraction p hp) (fraction q hq) .1 (neg-of-sgn (sym (order-value p q hp hq) ∙ h)) in
+      order-value p s hp hs ∙ sgn-neg (less-apart (fraction p hp) (fraction s hs) .0 (less-at-most-trans l (not-after q s hq hs k)))
 
   pub order-trans-strict : order p q ≡ negsuc 0 → order q s ≡ negsuc 0 → order p s ≡ negsuc 0
   order-trans-strict h k = order-less-trans h (subst (λ (x : ℤ). x ≤ℤ pos 0) (sym k) (leZ-yes tt))

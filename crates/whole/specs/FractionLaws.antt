@@ -2,16 +2,17 @@
 --   equal-refl, equal-sym, equal-trans             sameness is an equivalence
 --   sum-equal, product-equal, opposite-equal       sums, products, opposites of the same are the same
 --   at-most-equal, less-equal                      order respects it on both sides
---   at-most-trans, at-most-antisym, at-most-or-less   order is total, transitive, antisymmetric
+--   at-most-trans, less-at-most-trans, at-most-antisym, at-most-or-less   order is total, transitive, antisymmetric
+--   apart, at-most-apart, less-apart               order by the sign of the difference
 -- Assumes nothing.
-use mathlib.Core.Path.{refl, sym, _∙_, ap}
-use mathlib.Core.Logic.{_⊎_, inl, inr}
+use mathlib.Core.Path.{_≡_, refl, sym, _∙_, ap}
+use mathlib.Core.Logic.{_⊎_, inl, inr, _↔_}
 use mathlib.Core.List.{[], _∷_}
-use lib.IntN.{negℤ, _*ℤ_}
+use lib.IntN.{ℤ, pos, negℤ, _-ℤ_, _*ℤ_}
 use lib.Signed.{_≤ℤ_, _<ℤ_}
 use Rattle.whole.specs.Laws.{neg-mul}
-use Rattle.whole.specs.Reify.{reify, reading, solve}
-use Rattle.whole.specs.Order.{le-nn, lt-pp, nn-add, nn-mul, pp-add, pp-mul, pp-nn, ≤-antisym, le-or-lt}
+use Rattle.whole.specs.Reify.{reify, reading, solve, val-pos}
+use Rattle.whole.specs.Order.{le-cert, lt-cert, le-nn, lt-pp, nn-add, nn-mul, pp-add, pp-mul, pp-nn, ≤-antisym, le-or-lt}
 use Rattle.whole.specs.Cert.{z-eq, z-add, nn-eq, eq-cert, eq-by, le-by, lt-by}
 use Rattle.whole.specs.Fraction.{Fraction, Equal, AtMost, Less, sum, product, opposite}
 
@@ -81,6 +82,14 @@ at-most-trans {a} {b} {c} h k = record {
       (λ ρ v. simp (reading, v 0, v 1, v 2, v 3, v 4, v 5) (solve _ _ _ tt)));
 }
 
+pub less-at-most-trans : {a b c : Fraction} → Less a b → AtMost b c → Less a c
+less-at-most-trans {a} {b} {c} h k = record {
+  less =
+      lt-by (b .den) (pp-nn (b .above)) _ (pp-add (pp-mul (c .above) (lt-pp (h .less))) (nn-mul (pp-nn (a .above)) (le-nn (k .at-most))))
+      (reify (a .num ∷ a .den ∷ b .num ∷ b .den ∷ c .num ∷ c .den ∷ [])
+      (λ ρ v. simp (reading, v 0, v 1, v 2, v 3, v 4, v 5) (solve _ _ _ tt)));
+}
+
 pub at-most-antisym : {a b : Fraction} → AtMost a b → AtMost b a → Equal a b
 at-most-antisym h k = record { equal = ≤-antisym (h .at-most) (k .at-most) }
 
@@ -90,3 +99,22 @@ at-most-or-less a b = go (le-or-lt (a .num *ℤ b .den) (b .num *ℤ a .den))
     go : ((a .num *ℤ b .den) ≤ℤ (b .num *ℤ a .den)) ⊎ ((b .num *ℤ a .den) <ℤ (a .num *ℤ b .den)) → AtMost a b ⊎ Less b a
     go (inl h) = inl (record { at-most = h })
     go (inr h) = inr (record { less = h })
+
+abbrev pub apart : Fraction → Fraction → ℤ
+apart a b = a .num *ℤ b .den -ℤ b .num *ℤ a .den
+
+opposed : (x y : ℤ) → y -ℤ x ≡ pos 0 -ℤ (x -ℤ y)
+opposed x y = reify (x ∷ y ∷ []) (λ ρ v. simp (reading, v 0, v 1, val-pos ρ) (solve _ _ _ tt))
+
+module _ (a b : Fraction) where
+  pub at-most-apart : AtMost a b ↔ (apart a b ≤ℤ pos 0)
+  at-most-apart = (
+    λ h. le-cert _ (le-nn (h .at-most)) (sym (opposed (a .num *ℤ b .den) (b .num *ℤ a .den))),
+    λ h. record { at-most = le-cert _ (le-nn h) (opposed (a .num *ℤ b .den) (b .num *ℤ a .den)) },
+  )
+
+  pub less-apart : Less a b ↔ (apart a b <ℤ pos 0)
+  less-apart = (
+    λ h. lt-cert _ (lt-pp (h .less)) (sym (opposed (a .num *ℤ b .den) (b .num *ℤ a .den))),
+    λ h. record { less = lt-cert _ (lt-pp h) (opposed (a .num *ℤ b .den) (b .num *ℤ a .den)) },
+  )
