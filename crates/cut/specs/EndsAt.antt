@@ -25,7 +25,7 @@ use Rattle.cut.specs.Far.{ahead, behind, inner-p}
 
 -- ---- corners
 
--- a side's corners by its way out, and the sides before and after it
+-- a side's corners by its way out, and the side before it
 pub begins-is : (n : Side) → begins n ≡ corner (outX n +ℤ outY n) (outY n -ℤ outX n)
 begins-is left = refl
 begins-is bottom = refl

@@ -1,5 +1,5 @@
 -- What a crossing answers. A point that it answers is a point within the limits, so that refusal 12 is never given, and it lies on
--- both objects. To cite:
+-- the lines of both objects; that it lies on the objects themselves is demand 3, in `cut`. To cite:
 --   crossing-is-point       the point that is answered is a point
 --   crossing-limits, crossing-refusal   refusal 12 is not given; of accepted objects no refusal is
 --   crossing-on-both        the point that is answered is on the line of each of the two, and on each side of the frame
