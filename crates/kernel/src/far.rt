@@ -2,7 +2,7 @@
 use crate::divide::divide;
 use sheet::Point;
 ghost use mathlib.Core.Path.{_≡_};
-ghost use lib.IntN.{pos, _*ℤ_};
+ghost use lib.IntN.{pos};
 ghost use lib.Signed.{_<ℤ_};
 ghost use Rattle.whole.specs.Bound.{Within};
 ghost use Rattle.sheet.specs.Ends.{flat, steep, farEnd};

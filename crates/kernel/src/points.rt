@@ -2,7 +2,7 @@
 use crate::divide::divisor;
 use sheet::Point;
 ghost use mathlib.Core.Path.{_≡_};
-ghost use mathlib.Core.Bool.{_||_, _&&_};
+ghost use mathlib.Core.Bool.{_&&_};
 ghost use lib.IntN.{pos};
 ghost use lib.Signed.{leZ};
 ghost use Rattle.sheet.specs.Refusal.{objectRefusal};

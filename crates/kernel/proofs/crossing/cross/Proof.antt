@@ -10,10 +10,6 @@ use Rattle.kernel.proofs.Eight.{say}
 use borrow.Author.Needs.{needs}
 use Rattle.kernel.proofs.crossing.cross.Statement.{statement}
 use Rattle.kernel.proofs.crossing.cross.Tie as tie
-use Rattle.kernel.proofs.crossing.cross.Reads as reads
-use Rattle.kernel.proofs.crossing.cross.Lts as lts
-use Rattle.kernel.proofs.crossing.meet.Reads as meet-reads
-use Rattle.sheet.proofs.object_refusal.Reads as object-refusal-reads
 
 -- what has passed its check is accepted
 first-taken : (c : tie.Else1) → Accepted (c .before .before .args .a)

@@ -11,10 +11,6 @@ use Rattle.kernel.proofs.Eight.{say, near-out, piece-out}
 use borrow.Author.Needs.{needs}
 use Rattle.kernel.proofs.crossing.meet.Statement.{statement}
 use Rattle.kernel.proofs.crossing.meet.Tie as tie
-use Rattle.kernel.proofs.crossing.meet.Reads as reads
-use Rattle.kernel.proofs.crossing.meet.Lts as lts
-use Rattle.kernel.proofs.pieces.cross_pieces.Reads as cross-pieces-reads
-use Rattle.kernel.proofs.touch.with_side.Reads as with-side-reads
 
 abbrev a : tie.Start → Object
 a s = object (s .args .ka) (s .args .px) (s .args .py) (s .args .qx) (s .args .qy)

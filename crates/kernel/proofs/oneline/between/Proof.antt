@@ -1,8 +1,6 @@
 use Rattle.whole.specs.Tests.{out-is, lt-flag}
 use Rattle.kernel.proofs.oneline.between.Statement.{statement}
 use Rattle.kernel.proofs.oneline.between.Tie as tie
-use Rattle.kernel.proofs.oneline.between.Reads as reads
-use Rattle.kernel.proofs.oneline.between.Lts as lts
 
 returns : tie.Need-returns
 returns c = simp (lt-flag (c .before .fits .lo) (c .before .fits .hi) (c .if1 .taken))

@@ -7,10 +7,6 @@ use Rattle.kernel.proofs.Eight.{say}
 use borrow.Author.Needs.{needs}
 use Rattle.kernel.proofs.oneline.overlap.Statement.{statement}
 use Rattle.kernel.proofs.oneline.overlap.Tie as tie
-use Rattle.kernel.proofs.oneline.overlap.Reads as reads
-use Rattle.kernel.proofs.oneline.overlap.Lts as lts
-use Rattle.kernel.proofs.oneline.between.Reads as between-reads
-use Rattle.kernel.proofs.oneline.pick.Reads as pick-reads
 
 -- the sooner stop
 stop : (c : tie.After-pick) →

@@ -1,8 +1,6 @@
 use Rattle.whole.specs.Tests.{out-is}
 use Rattle.kernel.proofs.oneline.pick.Statement.{statement}
 use Rattle.kernel.proofs.oneline.pick.Tie as tie
-use Rattle.kernel.proofs.oneline.pick.Reads as reads
-use Rattle.kernel.proofs.oneline.pick.Lts as lts
 
 returns : tie.Need-returns
 returns c = simp (c .if1 .taken, out-is, c .before .fits .yes)

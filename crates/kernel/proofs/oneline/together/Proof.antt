@@ -12,10 +12,6 @@ use Rattle.kernel.proofs.Eight.{dxE, dyE, fxE, fyE, say}
 use borrow.Author.Needs.{needs}
 use Rattle.kernel.proofs.oneline.together.Statement.{statement}
 use Rattle.kernel.proofs.oneline.together.Tie as tie
-use Rattle.kernel.proofs.oneline.together.Reads as reads
-use Rattle.kernel.proofs.oneline.together.Lts as lts
-use Rattle.kernel.proofs.oneline.overlap.Reads as overlap-reads
-use Rattle.kernel.proofs.oneline.pick.Reads as pick-reads
 
 -- the inner product of d with the place of the locals i and j, and with f
 abbrev atE : ℕ → ℕ → Expr

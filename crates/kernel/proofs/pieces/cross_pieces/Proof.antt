@@ -8,10 +8,6 @@ use Rattle.kernel.proofs.Eight.{dxE, dyE, fxE, fyE, exE, eyE, acrossE, 
 use borrow.Author.Needs.{needs}
 use Rattle.kernel.proofs.pieces.cross_pieces.Statement.{statement}
 use Rattle.kernel.proofs.pieces.cross_pieces.Tie as tie
-use Rattle.kernel.proofs.pieces.cross_pieces.Reads as reads
-use Rattle.kernel.proofs.pieces.cross_pieces.Lts as lts
-use Rattle.kernel.proofs.oneline.together.Reads as together-reads
-use Rattle.kernel.proofs.pieces.skewed.Reads as skewed-reads
 
 abbrev offE : Expr
 offE = dxE ⊗ eyE ⊖ dyE ⊗ exE

@@ -16,10 +16,6 @@ use Rattle.kernel.specs.Pieces.{at}
 use Rattle.kernel.proofs.Eight.{dxE, dyE, fxE, fyE, acrossE}
 use Rattle.kernel.proofs.pieces.meeting_point.Statement.{statement}
 use Rattle.kernel.proofs.pieces.meeting_point.Tie as tie
-use Rattle.kernel.proofs.pieces.meeting_point.Reads as reads
-use Rattle.kernel.proofs.pieces.meeting_point.Lts as lts
-use Rattle.kernel.proofs.divide.divide.Reads as divide-reads
-use Rattle.kernel.proofs.pieces.turned.Reads as turned-reads
 
 -- the moments, and the two numbers over w before the sign goes in
 abbrev kE : Expr

@@ -1,8 +1,6 @@
 use Rattle.whole.specs.Tests.{out-is, lit-flag}
 use Rattle.kernel.proofs.pieces.reaches.Statement.{statement}
 use Rattle.kernel.proofs.pieces.reaches.Tie as tie
-use Rattle.kernel.proofs.pieces.reaches.Reads as reads
-use Rattle.kernel.proofs.pieces.reaches.Lts as lts
 
 returns : tie.Need-returns
 returns c = simp (out-is, lit-flag 1 tt, lit-flag 3 tt, c .fits .kind, c .fits .h, c .fits .w)

@@ -16,11 +16,6 @@ use Rattle.kernel.proofs.Eight.{dxE, dyE, fxE, fyE, exE, eyE, acrossE, 
 use borrow.Author.Needs.{needs}
 use Rattle.kernel.proofs.pieces.skewed.Statement.{statement}
 use Rattle.kernel.proofs.pieces.skewed.Tie as tie
-use Rattle.kernel.proofs.pieces.skewed.Reads as reads
-use Rattle.kernel.proofs.pieces.skewed.Lts as lts
-use Rattle.kernel.proofs.pieces.meeting_point.Reads as meeting-point-reads
-use Rattle.kernel.proofs.pieces.reaches.Reads as reaches-reads
-use Rattle.kernel.proofs.pieces.turned.Reads as turned-reads
 
 abbrev oneE : Expr
 oneE = exE ⊗ fyE ⊖ eyE ⊗ fxE

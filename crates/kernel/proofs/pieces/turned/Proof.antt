@@ -9,8 +9,6 @@ use Rattle.whole.specs.SignLaws.{sgn-pos, sgn-neg}
 use Rattle.whole.specs.Tests.{out-is, lt-taken, lt-left}
 use Rattle.kernel.proofs.pieces.turned.Statement.{statement}
 use Rattle.kernel.proofs.pieces.turned.Tie as tie
-use Rattle.kernel.proofs.pieces.turned.Reads as reads
-use Rattle.kernel.proofs.pieces.turned.Lts as lts
 
 sub-result : tie.Need-sub-result
 sub-result c = need (c .before .pre .bz also none) (lit 0 ⊖ var 0) tt

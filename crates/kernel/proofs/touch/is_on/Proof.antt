@@ -13,11 +13,6 @@ use Rattle.kernel.specs.Forms.{isFlat, far-flat, far-steep, flat-moves, 
 use Rattle.kernel.specs.Pieces.{at, onBy, on-by-divided}
 use Rattle.kernel.proofs.touch.is_on.Statement.{statement}
 use Rattle.kernel.proofs.touch.is_on.Tie as tie
-use Rattle.kernel.proofs.touch.is_on.Reads as reads
-use Rattle.kernel.proofs.touch.is_on.Lts as lts
-use Rattle.kernel.proofs.far.is_flat.Reads as is-flat-reads
-use Rattle.kernel.proofs.touch.is_on_flat.Reads as is-on-flat-reads
-use Rattle.kernel.proofs.touch.is_on_steep.Reads as is-on-steep-reads
 
 -- px, py, dx, dy
 abbrev ρ : tie.Start → List ℤ

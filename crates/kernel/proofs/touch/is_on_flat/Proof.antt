@@ -12,10 +12,6 @@ use Rattle.sheet.specs.Points.{size}
 use borrow.Author.Needs.{needs}
 use Rattle.kernel.proofs.touch.is_on_flat.Statement.{statement}
 use Rattle.kernel.proofs.touch.is_on_flat.Tie as tie
-use Rattle.kernel.proofs.touch.is_on_flat.Reads as reads
-use Rattle.kernel.proofs.touch.is_on_flat.Lts as lts
-use Rattle.kernel.proofs.far.abs.Reads as abs-reads
-use Rattle.whole.proofs.sign.Reads as sign-reads
 
 -- ox, oy, dx, dy
 lengths : (s : tie.Start) → All (1 ∷ 1 ∷ 4000 ∷ 4000 ∷ []) (s .args .ox ∷ s .args .oy ∷ s .args .dx ∷ s .args .dy ∷ [])

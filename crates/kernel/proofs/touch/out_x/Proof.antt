@@ -5,8 +5,6 @@ use Rattle.sheet.specs.Figure.{outX}
 use Rattle.kernel.specs.Kinds.{side-one, side-two, side-three, side-four}
 use Rattle.kernel.proofs.touch.out_x.Statement.{statement}
 use Rattle.kernel.proofs.touch.out_x.Tie as tie
-use Rattle.kernel.proofs.touch.out_x.Reads as reads
-use Rattle.kernel.proofs.touch.out_x.Lts as lts
 
 returns : tie.Need-returns
 returns c = sym (ap outX (side-one (eq-taken (c .before .fits .n) (fits64 (w-pos 1) tt) (c .if1 .taken))))

@@ -5,8 +5,6 @@ use Rattle.sheet.specs.Figure.{outY}
 use Rattle.kernel.specs.Kinds.{side-one, side-two, side-three, side-four}
 use Rattle.kernel.proofs.touch.out_y.Statement.{statement}
 use Rattle.kernel.proofs.touch.out_y.Tie as tie
-use Rattle.kernel.proofs.touch.out_y.Reads as reads
-use Rattle.kernel.proofs.touch.out_y.Lts as lts
 
 returns : tie.Need-returns
 returns c = sym (ap outY (side-one (eq-taken (c .before .fits .n) (fits64 (w-pos 1) tt) (c .if1 .taken))))

@@ -10,8 +10,6 @@ use Rattle.kernel.specs.Pieces.{sidesBy}
 use Rattle.kernel.proofs.Eight.{say}
 use Rattle.kernel.proofs.touch.sides.Statement.{statement}
 use Rattle.kernel.proofs.touch.sides.Tie as tie
-use Rattle.kernel.proofs.touch.sides.Reads as reads
-use Rattle.kernel.proofs.touch.sides.Lts as lts
 
 -- ox, oy, ux, uy
 bounds : (s : tie.Start) → All (1 ∷ 1 ∷ 1 ∷ 1 ∷ []) (s .args .ox ∷ s .args .oy ∷ s .args .ux ∷ s .args .uy ∷ [])

@@ -9,10 +9,6 @@ use Rattle.kernel.proofs.Eight.{say}
 use borrow.Author.Needs.{needs}
 use Rattle.kernel.proofs.touch.with_end.Statement.{statement}
 use Rattle.kernel.proofs.touch.with_end.Tie as tie
-use Rattle.kernel.proofs.touch.with_end.Reads as reads
-use Rattle.kernel.proofs.touch.with_end.Lts as lts
-use Rattle.kernel.proofs.far.far_end.Reads as far-end-reads
-use Rattle.kernel.proofs.touch.is_on.Reads as is-on-reads
 
 abbrev p : tie.Start → Vec
 p s = at (s .args .px) (s .args .py)

@@ -14,11 +14,6 @@ use Rattle.whole.specs.Flat.{_also_, need, gives, held}
 use borrow.Author.Needs.{needs}
 use Rattle.kernel.proofs.touch.with_line.Statement.{statement}
 use Rattle.kernel.proofs.touch.with_line.Tie as tie
-use Rattle.kernel.proofs.touch.with_line.Reads as reads
-use Rattle.kernel.proofs.touch.with_line.Lts as lts
-use Rattle.kernel.proofs.far.far_end.Reads as far-end-reads
-use Rattle.kernel.proofs.touch.is_on.Reads as is-on-reads
-use Rattle.kernel.proofs.touch.with_end.Reads as with-end-reads
 
 abbrev p : tie.Start → Vec
 p s = at (s .args .px) (s .args .py)

@@ -19,13 +19,6 @@ use Rattle.kernel.proofs.Eight.{dxE, dyE, say}
 use borrow.Author.Needs.{needs}
 use Rattle.kernel.proofs.touch.with_side.Statement.{statement}
 use Rattle.kernel.proofs.touch.with_side.Tie as tie
-use Rattle.kernel.proofs.touch.with_side.Reads as reads
-use Rattle.kernel.proofs.touch.with_side.Lts as lts
-use Rattle.kernel.proofs.touch.out_x.Reads as out-x-reads
-use Rattle.kernel.proofs.touch.out_y.Reads as out-y-reads
-use Rattle.kernel.proofs.touch.sides.Reads as sides-reads
-use Rattle.kernel.proofs.touch.with_end.Reads as with-end-reads
-use Rattle.kernel.proofs.touch.with_line.Reads as with-line-reads
 
 abbrev o : tie.Start → Object
 o s = object (s .args .kind) (s .args .px) (s .args .py) (s .args .qx) (s .args .qy)
