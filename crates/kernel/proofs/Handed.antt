@@ -1,7 +1,10 @@
 -- A struct that is handed on number by number is the struct: each number comes out of a local as it went in. To cite:
---   object, point   from what `struct-told` says of the five numbers: `object o (t .0 .1) (t .1 .0 .1) ..`
+--   objectOut                 an object whose numbers come out of locals
+--   object, point             from what is known of each number: `object o (s .fits .kind .sfits) (s .fits .px .sfits) ..`
+--   object-told, point-told   from what `struct-told` says of all five: `object-told o (c .struct-told .given)`
 use mathlib.Core.Path.{_≡_}
 use Prim.Native.Nat.{_<_, _^_}
+use lib.IntN.{ℤ}
 use lib.Signed.{mag}
 use mir.Syntax.{w64}
 use mir.Val.{hbits}
@@ -9,12 +12,16 @@ use Rattle.whole.specs.Tests.{out, out-ok}
 use Rattle.sheet.specs.declared.Object.{Object}
 use Rattle.sheet.specs.declared.Point.{Point}
 
-pub object :
-    (o : Object) → mag (o .kind) < 2 ^ hbits w64 → mag (o .px) < 2 ^ hbits w64 → mag (o .py) < 2 ^ hbits w64
-    → mag (o .qx) < 2 ^ hbits w64 → mag (o .qy) < 2 ^ hbits w64
-    → _≡_ {A = Object}
-    (record { kind = out (o .kind); px = out (o .px); py = out (o .py); qx = out (o .qx); qy = out (o .qy) })
-    o
+abbrev Fit : ℤ → Type 0
+Fit z = mag z < 2 ^ hbits w64
+
+abbrev pub objectOut : Object → Object
+objectOut o = record { kind = out (o .kind); px = out (o .px); py = out (o .py); qx = out (o .qx); qy = out (o .qy) }
+
+abbrev pointOut : Point → Point
+pointOut p = record { mx = out (p .mx); nx = out (p .nx); my = out (p .my); ny = out (p .ny); w = out (p .w) }
+
+pub object : (o : Object) → Fit (o .kind) → Fit (o .px) → Fit (o .py) → Fit (o .qx) → Fit (o .qy) → objectOut o ≡ o
 object o a b c d e = λ i. record {
   kind = out-ok (o .kind) a i;
   px = out-ok (o .px) b i;
@@ -23,10 +30,7 @@ object o a b c d e = λ i. record {
   qy = out-ok (o .qy) e i;
 }
 
-pub point :
-    (p : Point) → mag (p .mx) < 2 ^ hbits w64 → mag (p .nx) < 2 ^ hbits w64 → mag (p .my) < 2 ^ hbits w64
-    → mag (p .ny) < 2 ^ hbits w64 → mag (p .w) < 2 ^ hbits w64
-    → _≡_ {A = Point} (record { mx = out (p .mx); nx = out (p .nx); my = out (p .my); ny = out (p .ny); w = out (p .w) }) p
+pub point : (p : Point) → Fit (p .mx) → Fit (p .nx) → Fit (p .my) → Fit (p .ny) → Fit (p .w) → pointOut p ≡ p
 point p a b c d e = λ i. record {
   mx = out-ok (p .mx) a i;
   nx = out-ok (p .nx) b i;
@@ -34,3 +38,17 @@ point p a b c d e = λ i. record {
   ny = out-ok (p .ny) d i;
   w = out-ok (p .w) e i;
 }
+
+-- of each number something else is told first
+module _ {A B C D E F : Type 0} where
+  pub object-told :
+      (o : Object)
+      → (A × Fit (o .kind)) × ((B × Fit (o .px)) × ((C × Fit (o .py)) × ((D × Fit (o .qx)) × ((E × Fit (o .qy)) × F))))
+      → objectOut o ≡ o
+  object-told o t = object o (t .0 .1) (t .1 .0 .1) (t .1 .1 .0 .1) (t .1 .1 .1 .0 .1) (t .1 .1 .1 .1 .0 .1)
+
+  pub point-told :
+      (p : Point)
+      → (A × Fit (p .mx)) × ((B × Fit (p .nx)) × ((C × Fit (p .my)) × ((D × Fit (p .ny)) × ((E × Fit (p .w)) × F))))
+      → pointOut p ≡ p
+  point-told p t = point p (t .0 .1) (t .1 .0 .1) (t .1 .1 .0 .1) (t .1 .1 .1 .0 .1) (t .1 .1 .1 .1 .0 .1)

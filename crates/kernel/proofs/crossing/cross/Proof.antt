@@ -1,4 +1,4 @@
-use mathlib.Core.Path.{sym, _∙_, subst}
+use mathlib.Core.Path.{_≡_, sym, _∙_, subst}
 use Rattle.whole.specs.Bound.{fits64, w-pos}
 use Rattle.whole.specs.Tests.{fits-ok, eq-taken}
 use Rattle.sheet.specs.Refusal.{Accepted}
@@ -21,6 +21,16 @@ second-taken : (c : tie.Else2) → Accepted (c .before .before .before .before .
 second-taken c =
     let r = c .before .object-refusal2 in
     record { accepted = sym (r .ensures .0) ∙ eq-taken (fits-ok (r .result) (r .ok)) (fits64 (w-pos 0) tt) (c .if2 .left) }
+
+-- the objects as they are handed on
+abbrev tested : tie.After-struct-told10 → tie.Else2
+tested c = c .before .before .before .before .before .before .before .before .before .before
+
+first-told : (c : tie.After-struct-told10) → let o = tested c .before .before .before .before .args .a in handed.objectOut o ≡ o
+first-told c = handed.object-told _ (c .before .before .before .before .before .before .before .before .before .struct-told .given)
+
+second-told : (c : tie.After-struct-told10) → let o = tested c .before .before .before .before .args .b in handed.objectOut o ≡ o
+second-told c = handed.object-told _ (c .before .before .before .before .struct-told6 .given)
 
 object-refusal-requires : tie.Need-object-refusal-requires
 object-refusal-requires c κs = search needs
@@ -47,25 +57,14 @@ returns-2 c =
 
 meet-requires : tie.Need-meet-requires
 meet-requires c κs =
-    let e = c .before .before .before .before .before .before .before .before .before .before in
-    let s = e .before .before .before .before in
-    let t = c .before .before .before .before .before .before .before .before .before .struct-told .given in
-    let u = c .before .before .before .before .struct-told6 .given in (
-      subst Accepted (sym (handed.object (s .args .a) (t .0 .1) (t .1 .0 .1) (t .1 .1 .0 .1) (t .1 .1 .1 .0 .1) (t .1 .1 .1 .1 .0 .1)))
-          (first-taken (e .before .before)),
-      subst Accepted (sym (handed.object (s .args .b) (u .0 .1) (u .1 .0 .1) (u .1 .1 .0 .1) (u .1 .1 .1 .0 .1) (u .1 .1 .1 .1 .0 .1)))
-          (second-taken e),
-    )
+    let e = tested c in
+    (subst Accepted (sym (first-told c)) (first-taken (e .before .before)), subst Accepted (sym (second-told c)) (second-taken e))
 
 returns-3 : tie.Need-returns-3
 returns-3 c =
-    let e = c .before .before .before .before .before .before .before .before .before .before .before in
-    let s = e .before .before .before .before in
-    let t = c .before .before .before .before .before .before .before .before .before .before .struct-told .given in
-    let u = c .before .before .before .before .before .struct-told6 .given in
-    let one = handed.object (s .args .a) (t .0 .1) (t .1 .0 .1) (t .1 .1 .0 .1) (t .1 .1 .1 .0 .1) (t .1 .1 .1 .1 .0 .1) in
-    let two = handed.object (s .args .b) (u .0 .1) (u .1 .0 .1) (u .1 .1 .0 .1) (u .1 .1 .1 .0 .1) (u .1 .1 .1 .1 .0 .1) in
-    c .meet .ensures ∙ (λ i. say (crossingOf (one i) (two i)))
+    let d = c .before in
+    let e = tested d in
+    c .meet .ensures ∙ (λ i. say (crossingOf (first-told d i) (second-told d i)))
     ∙ sym (accepted _ (crossing-refusal (first-taken (e .before .before)) (second-taken e)))
 
 pub cross-spec : {M : Type 1} → statement M

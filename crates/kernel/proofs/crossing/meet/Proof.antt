@@ -7,6 +7,7 @@ use Rattle.sheet.specs.Figure.{sideOf, figure}
 use Rattle.sheet.specs.Crossing.{pieces, withSide}
 use Rattle.kernel.specs.Kinds.{accepted-pair}
 use Rattle.kernel.specs.Pieces.{object, side-first, side-second, crossing-pieces}
+use Rattle.kernel.proofs.Handed as handed
 use Rattle.kernel.proofs.Eight.{say, near-out, piece-out}
 use borrow.Author.Needs.{needs}
 use Rattle.kernel.proofs.crossing.meet.Statement.{statement}
@@ -20,10 +21,10 @@ b s = object (s .args .kb) (s .args .rx) (s .args .ry) (s .args .sx) (s .args .s
 
 -- the objects as they are handed on
 a-out : (s : tie.Start) → object (out (s .args .ka)) (out (s .args .px)) (out (s .args .py)) (out (s .args .qx)) (out (s .args .qy)) ≡ a s
-a-out s = λ i. object (out-is (s .fits .ka) i) (out-is (s .fits .px) i) (out-is (s .fits .py) i) (out-is (s .fits .qx) i) (out-is (s .fits .qy) i)
+a-out s = handed.object (a s) (s .fits .ka .sfits) (s .fits .px .sfits) (s .fits .py .sfits) (s .fits .qx .sfits) (s .fits .qy .sfits)
 
 b-out : (s : tie.Start) → object (out (s .args .kb)) (out (s .args .rx)) (out (s .args .ry)) (out (s .args .sx)) (out (s .args .sy)) ≡ b s
-b-out s = λ i. object (out-is (s .fits .kb) i) (out-is (s .fits .rx) i) (out-is (s .fits .ry) i) (out-is (s .fits .sx) i) (out-is (s .fits .sy) i)
+b-out s = handed.object (b s) (s .fits .kb .sfits) (s .fits .rx .sfits) (s .fits .ry .sfits) (s .fits .sx .sfits) (s .fits .sy .sfits)
 
 with-side-requires : tie.Need-with-side-requires
 with-side-requires c κs = search needs

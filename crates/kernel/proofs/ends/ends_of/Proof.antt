@@ -26,7 +26,7 @@ both-ends-requires c κs =
     let e = c .before .before .before .before .before in
     let o = e .before .before .args .o in
     let t = c .before .before .before .before .struct-told .given in
-    subst Accepted (sym (handed.object o (t .0 .1) (t .1 .0 .1) (t .1 .1 .0 .1) (t .1 .1 .1 .0 .1) (t .1 .1 .1 .1 .0 .1)))
+    subst Accepted (sym (handed.object-told o t))
     (record { accepted = sym (e .before .object-refusal .ensures .0) ∙ none e })
 
 returns-2 : tie.Need-returns-2
@@ -34,7 +34,7 @@ returns-2 c =
     let e = c .before .before .before .before .before .before in
     let o = e .before .before .args .o in
     let t = c .before .before .before .before .before .struct-told .given in
-    let told = handed.object o (t .0 .1) (t .1 .0 .1) (t .1 .1 .0 .1) (t .1 .1 .1 .0 .1) (t .1 .1 .1 .1 .0 .1) in
+    let told = handed.object-told o t in
     c .both-ends .ensures ∙ (λ i. pos 0 ∷ (numbers (firstEnd (told i)) ++ numbers (lastEnd (told i))))
     ∙ says-accepted _ (fits-ok (e .before .object-refusal .result) (e .before .object-refusal .ok)) (e .before .object-refusal .ensures .0) (e .if1 .left)
 

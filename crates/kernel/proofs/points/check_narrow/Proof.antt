@@ -1,4 +1,6 @@
-use Rattle.whole.specs.Tests.{out-ok}
+use mathlib.Core.Path.{_∙_, ap}
+use Rattle.sheet.specs.Points.{narrow}
+use Rattle.kernel.proofs.Handed as handed
 use borrow.Author.Needs.{needs}
 use Rattle.kernel.proofs.points.check_narrow.Statement.{statement}
 use Rattle.kernel.proofs.points.check_narrow.Tie as tie
@@ -8,10 +10,8 @@ is-narrow-requires c κs = search needs
 
 returns : tie.Need-returns
 returns c =
-    let p = c .before .before .before .before .before .before .args .p in
-    let told = c .before .before .before .before .before .struct-told .given in
-    simp
-    (c .is-narrow .ensures, out-ok (p .mx) (told .0 .1), out-ok (p .nx) (told .1 .0 .1), out-ok (p .my) (told .1 .1 .0 .1), out-ok (p .ny) (told .1 .1 .1 .0 .1), out-ok (p .w) (told .1 .1 .1 .1 .0 .1))
+    let s = c .before .before .before .before .before in
+    c .is-narrow .ensures ∙ ap narrow (handed.point-told (s .before .args .p) (s .struct-told .given))
 
 pub check-narrow-spec : {M : Type 1} → statement M
 check-narrow-spec = tie.close (tie.spec is-narrow-requires returns)

@@ -1,16 +1,14 @@
-use mathlib.Core.Path.{_≡_, sym, _∙_}
-use Rattle.whole.specs.Tests.{out-ok}
+use mathlib.Core.Path.{_≡_, sym, _∙_, ap}
 use Rattle.sheet.specs.Points.{isPoint, pointRefusal}
+use Rattle.kernel.proofs.Handed as handed
 use borrow.Author.Needs.{needs}
 use Rattle.kernel.proofs.points.check_point.Statement.{statement}
 use Rattle.kernel.proofs.points.check_point.Tie as tie
 
 test : (c : tie.After-is-point) → c .is-point .result ≡ isPoint (c .before .before .before .before .before .before .args .p)
 test c =
-    let p = c .before .before .before .before .before .before .args .p in
-    let told = c .before .before .before .before .before .struct-told .given in
-    simp
-    (c .is-point .ensures, out-ok (p .mx) (told .0 .1), out-ok (p .nx) (told .1 .0 .1), out-ok (p .my) (told .1 .1 .0 .1), out-ok (p .ny) (told .1 .1 .1 .0 .1), out-ok (p .w) (told .1 .1 .1 .1 .0 .1))
+    let s = c .before .before .before .before .before in
+    c .is-point .ensures ∙ ap isPoint (handed.point-told (s .before .args .p) (s .struct-told .given))
 
 is-point-requires : tie.Need-is-point-requires
 is-point-requires c κs = search needs
