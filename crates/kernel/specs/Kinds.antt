@@ -1,12 +1,18 @@
 -- An accepted object by the tests of its kind. To cite:
+--   lit-taken                   the code's test of a number against a literal, as an equation
 --   accepted-pair               not a side: p and q are given points that differ
 --   first-side, last-side, first-line, first-given, last-given, last-far   the ends by the kind
 --   side-pair                   the side of one that is not a frame side
---   side-one, side-two, side-three, side-four      the side of a number
+--   side-one, side-two, side-three, side-four   the side of a number, by the code's tests
 -- Assumes nothing.
 use mathlib.Core.Path.{_≡_, ap}
+use Prim.Native.Nat.{ℕ, _^_}
+use lib.Dec.{T, ltb}
 use lib.IntN.{ℤ, pos}
-use Rattle.whole.specs.Tests.{ne-eqZ}
+use mir.Syntax.{w64}
+use mir.Val.{SFits, ofZ}
+use Rattle.whole.specs.Bound.{fits64, w-pos}
+use Rattle.whole.specs.Tests.{ne-eqZ, eq-taken, eq-left}
 use Rattle.sheet.specs.declared.Object.{Object}
 use Rattle.sheet.specs.declared.Point.{Point}
 use Rattle.sheet.specs.Figure.{_⇀_, left, bottom, right, top, sideOf, first, second, figure}
@@ -17,21 +23,26 @@ use Rattle.sheet.specs.Signs.{turn, sideSign}
 use Rattle.sheet.specs.Expansions.{side-of-figure}
 use Rattle.sheet.specs.Ends.{farEnd, reverse, begins, nextSide, firstOf, lastOf, firstEnd, lastEnd}
 
-pub side-one : {n : ℤ} → n ≡ pos 1 → sideOf n ≡ left
-unfolding sideOf
-side-one e = ap sideOf e
+pub lit-taken : (n : ℕ) → T (ltb n (2 ^ 63)) → {x : ℤ} → SFits w64 x → ofZ w64 x ≡ n → x ≡ pos n
+lit-taken n t f e = eq-taken f (fits64 (w-pos n) t) e
 
-pub side-two : {n : ℤ} → n ≡ pos 2 → sideOf n ≡ bottom
-unfolding sideOf
-side-two e = ap sideOf e
+module _ {n : ℤ} (f : SFits w64 n) where
+  pub side-one : ofZ w64 n ≡ 1 → sideOf n ≡ left
+  unfolding sideOf
+  side-one e = ap sideOf (lit-taken 1 tt f e)
 
-pub side-three : {n : ℤ} → n ≡ pos 3 → sideOf n ≡ right
-unfolding sideOf
-side-three e = ap sideOf e
+  pub side-two : ofZ w64 n ≡ 2 → sideOf n ≡ bottom
+  unfolding sideOf
+  side-two e = ap sideOf (lit-taken 2 tt f e)
 
-pub side-four : {n : ℤ} → (n ≡ pos 1 → ⊥) → (n ≡ pos 2 → ⊥) → (n ≡ pos 3 → ⊥) → sideOf n ≡ top
+  pub side-three : ofZ w64 n ≡ 3 → sideOf n ≡ right
+  unfolding sideOf
+  side-three e = ap sideOf (lit-taken 3 tt f e)
+
+pub side-four : (n : ℤ) → (ofZ w64 n ≡ 1 → ⊥) → (ofZ w64 n ≡ 2 → ⊥) → (ofZ w64 n ≡ 3 → ⊥) → sideOf n ≡ top
 unfolding sideOf
-side-four a b c = simp (ne-eqZ a, ne-eqZ b, ne-eqZ c)
+side-four n a b c =
+    simp (ne-eqZ {a = n} {b = pos 1} (eq-left a), ne-eqZ {a = n} {b = pos 2} (eq-left b), ne-eqZ {a = n} {b = pos 3} (eq-left c))
 
 module _ (o : Object) where
   pub first-side : o .kind ≡ pos 4 → firstEnd o ≡ begins (sideOf (o .px))

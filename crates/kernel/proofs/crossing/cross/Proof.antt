@@ -1,10 +1,10 @@
 use mathlib.Core.Path.{_≡_, sym, _∙_, subst}
-use Rattle.whole.specs.Bound.{fits64, w-pos}
-use Rattle.whole.specs.Tests.{fits-ok, eq-taken}
+use Rattle.whole.specs.Tests.{fits-ok}
 use Rattle.sheet.specs.Refusal.{Accepted}
 use Rattle.sheet.specs.AnswersLaws.{accepted, says-refused, refused-first, refused-next}
 use Rattle.sheet.specs.Crossing.{crossingOf, crossingRefusal}
 use Rattle.sheet.specs.CrossingLaws.{crossing-refusal}
+use Rattle.kernel.specs.Accepts.{not-refused}
 use Rattle.kernel.proofs.Handed as handed
 use Rattle.kernel.proofs.Eight.{say}
 use borrow.Author.Needs.{needs}
@@ -15,12 +15,12 @@ use Rattle.kernel.proofs.crossing.cross.Tie as tie
 first-taken : (c : tie.Else1) → Accepted (c .before .before .args .a)
 first-taken c =
     let r = c .before .object-refusal in
-    record { accepted = sym (r .ensures .0) ∙ eq-taken (fits-ok (r .result) (r .ok)) (fits64 (w-pos 0) tt) (c .if1 .left) }
+    record { accepted = not-refused (r .result) (r .ok) (r .ensures .0) (c .if1 .left) }
 
 second-taken : (c : tie.Else2) → Accepted (c .before .before .before .before .args .b)
 second-taken c =
     let r = c .before .object-refusal2 in
-    record { accepted = sym (r .ensures .0) ∙ eq-taken (fits-ok (r .result) (r .ok)) (fits64 (w-pos 0) tt) (c .if2 .left) }
+    record { accepted = not-refused (r .result) (r .ok) (r .ensures .0) (c .if2 .left) }
 
 -- the objects as they are handed on
 abbrev tested : tie.After-struct-told10 → tie.Else2

@@ -1,11 +1,10 @@
 use mathlib.Core.Path.{_≡_, sym, _∙_, ap}
 use Rattle.whole.specs.Flat.{none, _also_}
-use Rattle.whole.specs.Bound.{fits64, w-pos}
-use Rattle.whole.specs.Tests.{out, out-is, eq-taken, eq-left}
+use Rattle.whole.specs.Tests.{out, out-is, eq-left}
 use Rattle.sheet.specs.declared.Object.{Object}
 use Rattle.sheet.specs.Figure.{sideOf, figure}
 use Rattle.sheet.specs.Crossing.{pieces, withSide}
-use Rattle.kernel.specs.Kinds.{accepted-pair}
+use Rattle.kernel.specs.Kinds.{lit-taken, accepted-pair}
 use Rattle.kernel.specs.Pieces.{object, side-first, side-second, crossing-pieces}
 use Rattle.kernel.proofs.Handed as handed
 use Rattle.kernel.proofs.Eight.{say, near-out, piece-out}
@@ -33,7 +32,7 @@ returns : tie.Need-returns
 returns c =
     let s = c .before .before in
     c .with-side .ensures ∙ (λ i. say (withSide (sideOf (out-is (s .fits .px) i)) (figure (b-out s i))))
-    ∙ sym (ap say (side-first (a s) (b s) (eq-taken (s .fits .ka) (fits64 (w-pos 4) tt) (c .before .if1 .taken))))
+    ∙ sym (ap say (side-first (a s) (b s) (lit-taken 4 tt (s .fits .ka) (c .before .if1 .taken))))
 
 with-side-requires-2 : tie.Need-with-side-requires-2
 with-side-requires-2 c κs = search needs
@@ -43,7 +42,7 @@ returns-2 c =
     let s = c .before .before .before in
     c .with-side2 .ensures ∙ (λ i. say (withSide (sideOf (out-is (s .fits .rx) i)) (figure (a-out s i))))
     ∙ sym (ap say (side-second (a s) (b s) (s .pre .0) (eq-left (c .before .before .if1 .left))
-    (eq-taken (s .fits .kb) (fits64 (w-pos 4) tt) (c .before .if2 .taken))))
+    (lit-taken 4 tt (s .fits .kb) (c .before .if2 .taken))))
 
 cross-pieces-requires : tie.Need-cross-pieces-requires
 cross-pieces-requires c κs =

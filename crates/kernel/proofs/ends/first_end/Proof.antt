@@ -4,14 +4,13 @@ use lib.IntN.{ℤ, pos, negℤ, _-ℤ_}
 use Rattle.whole.specs.Laws.{eq-of-sub}
 use Rattle.whole.specs.Ring.{var, _⊖_, ⊝_, ring}
 use Rattle.whole.specs.Flat.{All, none, _also_, need, gives, held}
-use Rattle.whole.specs.Bound.{fits64, w-pos}
-use Rattle.whole.specs.Tests.{out-is, eq-taken, eq-left}
+use Rattle.whole.specs.Tests.{out-is, eq-left}
 use Rattle.sheet.specs.declared.Object.{Object}
 use Rattle.sheet.specs.Figure.{sideOf, first, second}
 use Rattle.sheet.specs.RefusalLaws.{Proper}
 use Rattle.sheet.specs.Points.{given}
 use Rattle.sheet.specs.Ends.{farEnd, begins}
-use Rattle.kernel.specs.Kinds.{accepted-pair, first-side, first-line, first-given}
+use Rattle.kernel.specs.Kinds.{lit-taken, accepted-pair, first-side, first-line, first-given}
 use borrow.Author.Needs.{needs}
 use Rattle.kernel.proofs.ends.first_end.Statement.{statement}
 use Rattle.kernel.proofs.ends.first_end.Tie as tie
@@ -27,7 +26,7 @@ proper : (c : tie.Then2) → Proper (first (object (c .before .before))) (second
 proper c = accepted-pair (object (c .before .before)) (c .before .before .pre) (eq-left (c .before .if1 .left))
 
 three : (c : tie.Then2) → c .before .before .args .kind ≡ pos 3
-three c = eq-taken (c .before .before .fits .kind) (fits64 (w-pos 3) tt) (c .if2 .taken)
+three c = lit-taken 3 tt (c .before .before .fits .kind) (c .if2 .taken)
 
 turned : (a b : ℤ) → a -ℤ b ≡ negℤ (b -ℤ a)
 turned a b = ring (a ∷ b ∷ []) (var 0 ⊖ var 1) (⊝ (var 1 ⊖ var 0)) tt
@@ -38,7 +37,7 @@ side-begins-requires c κs = search needs
 returns : tie.Need-returns
 returns c =
     let s = c .before .before in
-    let four = eq-taken (s .fits .kind) (fits64 (w-pos 4) tt) (c .before .if1 .taken) in
+    let four = lit-taken 4 tt (s .fits .kind) (c .before .if1 .taken) in
     c .side-begins .ensures ∙ ap (λ (n : ℤ). begins (sideOf n)) (out-is (s .fits .px)) ∙ sym (first-side (object s) four)
 
 sub-back : tie.Need-sub-back

@@ -4,14 +4,13 @@ use lib.IntN.{ℤ}
 use Rattle.whole.specs.Laws.{eq-of-sub}
 use Rattle.whole.specs.Ring.{var, _⊖_}
 use Rattle.whole.specs.Flat.{All, none, _also_, need, gives, held}
-use Rattle.whole.specs.Bound.{fits64, w-pos}
-use Rattle.whole.specs.Tests.{out-is, eq-taken, eq-left}
+use Rattle.whole.specs.Tests.{out-is, eq-left}
 use Rattle.sheet.specs.declared.Object.{Object}
 use Rattle.sheet.specs.Figure.{sideOf, first, second}
 use Rattle.sheet.specs.RefusalLaws.{Proper}
 use Rattle.sheet.specs.Points.{given}
 use Rattle.sheet.specs.Ends.{farEnd, begins, nextSide}
-use Rattle.kernel.specs.Kinds.{accepted-pair, last-side, last-given, last-far}
+use Rattle.kernel.specs.Kinds.{lit-taken, accepted-pair, last-side, last-given, last-far}
 use borrow.Author.Needs.{needs}
 use Rattle.kernel.proofs.ends.last_end.Statement.{statement}
 use Rattle.kernel.proofs.ends.last_end.Tie as tie
@@ -32,7 +31,7 @@ side-stops-requires c κs = search needs
 returns : tie.Need-returns
 returns c =
     let s = c .before .before in
-    let four = eq-taken (s .fits .kind) (fits64 (w-pos 4) tt) (c .before .if1 .taken) in
+    let four = lit-taken 4 tt (s .fits .kind) (c .before .if1 .taken) in
     c .side-stops .ensures ∙ ap (λ (n : ℤ). begins (nextSide (sideOf n))) (out-is (s .fits .px)) ∙ sym (last-side (object s) four)
 
 given-point-requires : tie.Need-given-point-requires
@@ -41,7 +40,7 @@ given-point-requires c κs = search needs
 returns-2 : tie.Need-returns-2
 returns-2 c =
     let s = c .before .before .before in
-    let one = eq-taken (s .fits .kind) (fits64 (w-pos 1) tt) (c .before .if2 .taken) in
+    let one = lit-taken 1 tt (s .fits .kind) (c .before .if2 .taken) in
     c .given-point .ensures
     ∙ (λ i. given (record { x = out-is (s .fits .qx) i; y = out-is (s .fits .qy) i })) ∙ sym (last-given (object s) one)
 

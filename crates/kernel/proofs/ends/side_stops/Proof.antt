@@ -1,6 +1,4 @@
 use mathlib.Core.Path.{sym, _∙_, ap}
-use Rattle.whole.specs.Bound.{fits64, w-pos}
-use Rattle.whole.specs.Tests.{eq-taken, eq-left}
 use Rattle.sheet.specs.Figure.{Side}
 use Rattle.sheet.specs.Ends.{begins, nextSide}
 use Rattle.kernel.specs.Kinds.{side-one, side-two, side-three, side-four}
@@ -12,26 +10,26 @@ frame-corner-requires : tie.Need-frame-corner-requires
 frame-corner-requires c κs = search needs
 
 returns : tie.Need-returns
-returns c = c .frame-corner .ensures ∙ sym (ap (λ (m : Side). begins (nextSide m)) (side-one (eq-taken (c .before .before .fits .n) (fits64 (w-pos 1) tt) (c .before .if1 .taken))))
+returns c = c .frame-corner .ensures ∙ sym (ap (λ (m : Side). begins (nextSide m)) (side-one (c .before .before .fits .n) (c .before .if1 .taken)))
 
 frame-corner-requires-2 : tie.Need-frame-corner-requires-2
 frame-corner-requires-2 c κs = search needs
 
 returns-2 : tie.Need-returns-2
-returns-2 c = c .frame-corner2 .ensures ∙ sym (ap (λ (m : Side). begins (nextSide m)) (side-two (eq-taken (c .before .before .before .fits .n) (fits64 (w-pos 2) tt) (c .before .if2 .taken))))
+returns-2 c = c .frame-corner2 .ensures ∙ sym (ap (λ (m : Side). begins (nextSide m)) (side-two (c .before .before .before .fits .n) (c .before .if2 .taken)))
 
 frame-corner-requires-3 : tie.Need-frame-corner-requires-3
 frame-corner-requires-3 c κs = search needs
 
 returns-3 : tie.Need-returns-3
-returns-3 c = c .frame-corner3 .ensures ∙ sym (ap (λ (m : Side). begins (nextSide m)) (side-three (eq-taken (c .before .before .before .before .fits .n) (fits64 (w-pos 3) tt) (c .before .if3 .taken))))
+returns-3 c = c .frame-corner3 .ensures ∙ sym (ap (λ (m : Side). begins (nextSide m)) (side-three (c .before .before .before .before .fits .n) (c .before .if3 .taken)))
 
 frame-corner-requires-4 : tie.Need-frame-corner-requires-4
 frame-corner-requires-4 c κs = search needs
 
 returns-4 : tie.Need-returns-4
 returns-4 c = c .frame-corner4 .ensures ∙ sym (ap (λ (m : Side). begins (nextSide m)) (
-    side-four {n = c .before .before .before .before .args .n} (eq-left (c .before .before .before .if1 .left)) (eq-left (c .before .before .if2 .left)) (eq-left (c .before .if3 .left))))
+    side-four (c .before .before .before .before .args .n) (c .before .before .before .if1 .left) (c .before .before .if2 .left) (c .before .if3 .left)))
 
 pub side-stops-spec : {M : Type 1} → statement M
 side-stops-spec =

@@ -1,9 +1,9 @@
 use mathlib.Core.Path.{sym, _∙_, ap}
 use Rattle.whole.specs.Sign.{sgn}
 use Rattle.whole.specs.SignLaws.{sgn-zero}
-use Rattle.whole.specs.Bound.{fits64, w-pos}
-use Rattle.whole.specs.Tests.{out-is, out-ok, eq-taken, eq-left}
+use Rattle.whole.specs.Tests.{out-is, out-ok, eq-left}
 use Rattle.whole.specs.PolyLaws.{first-ne}
+use Rattle.kernel.specs.Kinds.{lit-taken}
 use borrow.Author.Needs.{needs}
 use Rattle.kernel.proofs.lead.lead.Statement.{statement}
 use Rattle.kernel.proofs.lead.lead.Tie as tie
@@ -14,7 +14,7 @@ sign-requires c κs = search needs
 returns : tie.Need-returns
 returns c =
     let s = c .before .before in
-    let zero = eq-taken (s .fits .a) (fits64 (w-pos 0) tt) (c .before .if1 .taken) in
+    let zero = lit-taken 0 tt (s .fits .a) (c .before .if1 .taken) in
     out-ok (c .sign .result) (c .sign .ok)
     ∙ simp (c .sign .ensures, out-is, s .fits .b, zero, sgn-zero)
 

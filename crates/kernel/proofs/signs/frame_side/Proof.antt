@@ -5,8 +5,7 @@ use Rattle.whole.specs.Sign.{sgn}
 use Rattle.whole.specs.Poly.{first}
 use Rattle.whole.specs.Ring.{var, lit, _⊕_, _⊖_}
 use Rattle.whole.specs.Flat.{All, none, _also_, need, gives}
-use Rattle.whole.specs.Bound.{fits64, w-pos}
-use Rattle.whole.specs.Tests.{out-ok, eq-taken, eq-left}
+use Rattle.whole.specs.Tests.{out-ok}
 use Rattle.sheet.specs.declared.Point.{Point}
 use Rattle.sheet.specs.Figure.{Side, side}
 use Rattle.sheet.specs.Signs.{sideOfFigure}
@@ -36,7 +35,7 @@ returns c =
     let s = c .before .before in
     out-ok (c .lead .result) (c .lead .ok) ∙ c .lead .ensures
     ∙ ap₂ (λ (a b : ℤ). first (sgn a) (sgn b)) (gives (five s) (var 0 ⊕ var 4) tt) (gives (five s) (var 1) tt)
-    ∙ sym (ap (λ (n : Side). sideOfFigure (side n) (point s)) (side-one (eq-taken (s .fits .n) (fits64 (w-pos 1) tt) (c .before .if1 .taken))) ∙ left-side-is (point s))
+    ∙ sym (ap (λ (n : Side). sideOfFigure (side n) (point s)) (side-one (s .fits .n) (c .before .if1 .taken)) ∙ left-side-is (point s))
 
 add-lead-2 : tie.Need-add-lead-2
 add-lead-2 c = need (five (c .before .before)) (var 2 ⊕ var 4) tt
@@ -49,7 +48,7 @@ returns-2 c =
     let s = c .before .before .before in
     out-ok (c .lead2 .result) (c .lead2 .ok) ∙ c .lead2 .ensures
     ∙ ap₂ (λ (a b : ℤ). first (sgn a) (sgn b)) (gives (five s) (var 2 ⊕ var 4) tt) (gives (five s) (var 3) tt)
-    ∙ sym (ap (λ (n : Side). sideOfFigure (side n) (point s)) (side-two (eq-taken (s .fits .n) (fits64 (w-pos 2) tt) (c .before .if2 .taken))) ∙ bottom-side-is (point s))
+    ∙ sym (ap (λ (n : Side). sideOfFigure (side n) (point s)) (side-two (s .fits .n) (c .before .if2 .taken)) ∙ bottom-side-is (point s))
 
 sub-lead : tie.Need-sub-lead
 sub-lead c = need (five (c .before .before .before)) (var 4 ⊖ var 0) tt
@@ -65,7 +64,7 @@ returns-3 c =
     let s = c .before .before .before .before in
     out-ok (c .lead3 .result) (c .lead3 .ok) ∙ c .lead3 .ensures
     ∙ ap₂ (λ (a b : ℤ). first (sgn a) (sgn b)) (gives (five s) (var 4 ⊖ var 0) tt) (gives (five s) (lit 0 ⊖ var 1) tt ∙ +ℤ-idl (negℤ (s .args .nx)))
-    ∙ sym (ap (λ (n : Side). sideOfFigure (side n) (point s)) (side-three (eq-taken (s .fits .n) (fits64 (w-pos 3) tt) (c .before .if3 .taken))) ∙ right-side-is (point s))
+    ∙ sym (ap (λ (n : Side). sideOfFigure (side n) (point s)) (side-three (s .fits .n) (c .before .if3 .taken)) ∙ right-side-is (point s))
 
 sub-lead-3 : tie.Need-sub-lead-3
 sub-lead-3 c = need (five (c .before .before .before)) (var 4 ⊖ var 2) tt
@@ -81,7 +80,7 @@ returns-4 c =
     let s = c .before .before .before .before in
     out-ok (c .lead4 .result) (c .lead4 .ok) ∙ c .lead4 .ensures
     ∙ ap₂ (λ (a b : ℤ). first (sgn a) (sgn b)) (gives (five s) (var 4 ⊖ var 2) tt) (gives (five s) (lit 0 ⊖ var 3) tt ∙ +ℤ-idl (negℤ (s .args .ny)))
-    ∙ sym (ap (λ (n : Side). sideOfFigure (side n) (point s)) (side-four {n = s .args .n} (eq-left (c .before .before .before .if1 .left)) (eq-left (c .before .before .if2 .left)) (eq-left (c .before .if3 .left))) ∙ top-side-is (point s))
+    ∙ sym (ap (λ (n : Side). sideOfFigure (side n) (point s)) (side-four (s .args .n) (c .before .before .before .if1 .left) (c .before .before .if2 .left) (c .before .if3 .left)) ∙ top-side-is (point s))
 
 pub frame-side-spec : {M : Type 1} → statement M
 frame-side-spec =

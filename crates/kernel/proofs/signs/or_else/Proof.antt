@@ -1,14 +1,14 @@
 use mathlib.Core.Path.{_∙_}
 use lib.IntN.{pos}
-use Rattle.whole.specs.Bound.{fits64, w-pos}
-use Rattle.whole.specs.Tests.{out-is, eq-taken, eq-left, eq-eqZ, ne-eqZ}
+use Rattle.whole.specs.Tests.{out-is, eq-left, eq-eqZ, ne-eqZ}
+use Rattle.kernel.specs.Kinds.{lit-taken}
 use Rattle.kernel.proofs.signs.or_else.Statement.{statement}
 use Rattle.kernel.proofs.signs.or_else.Tie as tie
 
 returns : tie.Need-returns
 returns c =
     let s = c .before in
-    out-is (s .fits .m) ∙ simp (eq-eqZ (eq-taken (s .fits .n) (fits64 (w-pos 0) tt) (c .if1 .taken)))
+    out-is (s .fits .m) ∙ simp (eq-eqZ (lit-taken 0 tt (s .fits .n) (c .if1 .taken)))
 
 returns-2 : tie.Need-returns-2
 returns-2 c =

@@ -1,11 +1,10 @@
 use mathlib.Core.Path.{_≡_, sym, _∙_, ap₂}
 use mathlib.Core.List.{[], _∷_}
 use lib.IntN.{pos}
-use Rattle.whole.specs.Bound.{fits64, w-pos}
-use Rattle.whole.specs.Tests.{out-ok, fits-ok, eq-taken}
+use Rattle.whole.specs.Tests.{out-ok, fits-ok}
 use Rattle.sheet.specs.Signs.{orElse, orderRefusal}
 use Rattle.sheet.specs.AnswersLaws.{says-refused, accepted}
-use Rattle.kernel.specs.Accepts.{order-accepts}
+use Rattle.kernel.specs.Accepts.{not-refused, order-accepts}
 use borrow.Author.Needs.{needs}
 use Rattle.kernel.proofs.signs.order_points.Statement.{statement}
 use Rattle.kernel.proofs.signs.order_points.Tie as tie
@@ -14,8 +13,8 @@ refusal : (c : tie.After-or-else) → c .or-else .result ≡ orderRefusal (c .be
 unfolding orderRefusal
 refusal c = c .or-else .ensures ∙ ap₂ orElse (out-ok (c .before .before .check-point .result) (c .before .before .check-point .ok) ∙ c .before .before .check-point .ensures) (out-ok (c .before .check-point2 .result) (c .before .check-point2 .ok) ∙ c .before .check-point2 .ensures)
 
-none : (c : tie.Else1) → orderRefusal (c .before .before .before .before .args .p) (c .before .before .before .before .args .q) ≡ pos 0
-none c = sym (refusal (c .before)) ∙ eq-taken (fits-ok (c .before .or-else .result) (c .before .or-else .ok)) (fits64 (w-pos 0) tt) (c .if1 .left)
+passed : (c : tie.Else1) → orderRefusal (c .before .before .before .before .args .p) (c .before .before .before .before .args .q) ≡ pos 0
+passed c = not-refused (c .before .or-else .result) (c .before .or-else .ok) (refusal (c .before)) (c .if1 .left)
 
 check-point-requires : tie.Need-check-point-requires
 check-point-requires c κs = search needs
@@ -30,11 +29,11 @@ returns : tie.Need-returns
 returns c = says-refused _ (fits-ok (c .before .or-else .result) (c .before .or-else .ok)) (refusal (c .before)) (c .if1 .taken)
 
 order-of-requires : tie.Need-order-of-requires
-order-of-requires c κs = let s = c .before .before .before .before in order-accepts (s .args .p) (s .args .q) (none c)
+order-of-requires c κs = let s = c .before .before .before .before in order-accepts (s .args .p) (s .args .q) (passed c)
 
 returns-2 : tie.Need-returns-2
 returns-2 c =
-    (λ i. pos 0 ∷ (out-ok (c .order-of .result) (c .order-of .ok) ∙ c .order-of .ensures) i ∷ []) ∙ sym (accepted _ (none (c .before)))
+    (λ i. pos 0 ∷ (out-ok (c .order-of .result) (c .order-of .ok) ∙ c .order-of .ensures) i ∷ []) ∙ sym (accepted _ (passed (c .before)))
 
 pub order-points-spec : {M : Type 1} → statement M
 order-points-spec =

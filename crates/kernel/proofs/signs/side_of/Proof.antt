@@ -1,11 +1,10 @@
 use mathlib.Core.Path.{_≡_, sym, _∙_, ap₂}
 use mathlib.Core.List.{[], _∷_}
 use lib.IntN.{pos}
-use Rattle.whole.specs.Bound.{fits64, w-pos}
-use Rattle.whole.specs.Tests.{out-ok, fits-ok, eq-taken}
+use Rattle.whole.specs.Tests.{out-ok, fits-ok}
 use Rattle.sheet.specs.Signs.{orElse, sideSignRefusal}
 use Rattle.sheet.specs.AnswersLaws.{says-refused, accepted}
-use Rattle.kernel.specs.Accepts.{side-accepts}
+use Rattle.kernel.specs.Accepts.{not-refused, side-accepts}
 use borrow.Author.Needs.{needs}
 use Rattle.kernel.proofs.signs.side_of.Statement.{statement}
 use Rattle.kernel.proofs.signs.side_of.Tie as tie
@@ -14,8 +13,8 @@ refusal : (c : tie.After-or-else) → c .or-else .result ≡ sideSignRefusal (c 
 unfolding sideSignRefusal
 refusal c = c .or-else .ensures ∙ ap₂ orElse (out-ok (c .before .before .object-refusal .result) (c .before .before .object-refusal .ok) ∙ c .before .before .object-refusal .ensures .0) (out-ok (c .before .check-point .result) (c .before .check-point .ok) ∙ c .before .check-point .ensures)
 
-none : (c : tie.Else1) → sideSignRefusal (c .before .before .before .before .args .o) (c .before .before .before .before .args .s) ≡ pos 0
-none c = sym (refusal (c .before)) ∙ eq-taken (fits-ok (c .before .or-else .result) (c .before .or-else .ok)) (fits64 (w-pos 0) tt) (c .if1 .left)
+passed : (c : tie.Else1) → sideSignRefusal (c .before .before .before .before .args .o) (c .before .before .before .before .args .s) ≡ pos 0
+passed c = not-refused (c .before .or-else .result) (c .before .or-else .ok) (refusal (c .before)) (c .if1 .left)
 
 object-refusal-requires : tie.Need-object-refusal-requires
 object-refusal-requires c κs = search needs
@@ -30,11 +29,11 @@ returns : tie.Need-returns
 returns c = says-refused _ (fits-ok (c .before .or-else .result) (c .before .or-else .ok)) (refusal (c .before)) (c .if1 .taken)
 
 side-sign-requires : tie.Need-side-sign-requires
-side-sign-requires c κs = let s = c .before .before .before .before in side-accepts (s .args .o) (s .args .s) (none c)
+side-sign-requires c κs = let s = c .before .before .before .before in side-accepts (s .args .o) (s .args .s) (passed c)
 
 returns-2 : tie.Need-returns-2
 returns-2 c =
-    (λ i. pos 0 ∷ (out-ok (c .side-sign .result) (c .side-sign .ok) ∙ c .side-sign .ensures) i ∷ []) ∙ sym (accepted _ (none (c .before)))
+    (λ i. pos 0 ∷ (out-ok (c .side-sign .result) (c .side-sign .ok) ∙ c .side-sign .ensures) i ∷ []) ∙ sym (accepted _ (passed (c .before)))
 
 pub side-of-spec : {M : Type 1} → statement M
 side-of-spec =

@@ -1,15 +1,15 @@
 use mathlib.Core.Path.{_≡_, sym, _∙_}
 use lib.IntN.{pos}
 use Rattle.whole.specs.Flat.{back}
-use Rattle.whole.specs.Bound.{fits64, w-pos, w-is}
-use Rattle.whole.specs.Tests.{out, out-ok, fits-ok, eq-taken, eq-left}
+use Rattle.whole.specs.Bound.{w-is}
+use Rattle.whole.specs.Tests.{out, out-ok, fits-ok, eq-left}
 use Rattle.sheet.specs.declared.Point.{Point}
 use Rattle.sheet.specs.Figure.{side, sideOf, first, second}
 use Rattle.sheet.specs.RefusalLaws.{Proper, kind-side}
 use Rattle.sheet.specs.Signs.{sideOfFigure}
 use Rattle.sheet.specs.Expansions.{side-of-figure, pair-side-is}
 use Rattle.kernel.specs.Forms.{pairSide}
-use Rattle.kernel.specs.Kinds.{accepted-pair, side-pair}
+use Rattle.kernel.specs.Kinds.{lit-taken, accepted-pair, side-pair}
 use borrow.Author.Needs.{needs}
 use Rattle.kernel.proofs.signs.side_sign.Statement.{statement}
 use Rattle.kernel.proofs.signs.side_sign.Tie as tie
@@ -42,7 +42,7 @@ returns c =
     let o = s .args .o in
     let t = c .before .before .before .before .before .before .before .before .struct-told .given in
     let px = out-ok (o .px) (t .1 .0 .1) in
-    let four = eq-taken (fits-ok (o .kind) (t .0 .1)) (fits64 (w-pos 4) tt) (c .before .before .before .before .before .before .before .if1 .taken) in
+    let four = lit-taken 4 tt (fits-ok (o .kind) (t .0 .1)) (c .before .before .before .before .before .before .before .if1 .taken) in
     out-ok (c .frame-side .result) (c .frame-side .ok) ∙ c .frame-side .ensures
     ∙ (λ i. sideOfFigure (side (sideOf (px i))) (handed s i))
     ∙ sym (side-of-figure o (s .args .s) (kind-side o four))

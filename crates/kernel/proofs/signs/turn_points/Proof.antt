@@ -1,19 +1,16 @@
 use mathlib.Core.Path.{_≡_, sym, _∙_}
 use mathlib.Core.List.{[], _∷_}
 use lib.IntN.{pos}
-use Rattle.whole.specs.Bound.{fits64, w-pos}
-use Rattle.whole.specs.Tests.{out-ok, fits-ok, eq-taken}
+use Rattle.whole.specs.Tests.{out-ok, fits-ok}
 use Rattle.sheet.specs.Signs.{turnRefusal}
 use Rattle.sheet.specs.AnswersLaws.{says-refused, accepted}
-use Rattle.kernel.specs.Accepts.{turn-accepts}
+use Rattle.kernel.specs.Accepts.{not-refused, turn-accepts}
 use borrow.Author.Needs.{needs}
 use Rattle.kernel.proofs.signs.turn_points.Statement.{statement}
 use Rattle.kernel.proofs.signs.turn_points.Tie as tie
 
-none : (c : tie.Else1) → turnRefusal (c .before .before .args .p) (c .before .before .args .q) (c .before .before .args .s) ≡ pos 0
-none c =
-    sym (c .before .turn-refusal .ensures)
-    ∙ eq-taken (fits-ok (c .before .turn-refusal .result) (c .before .turn-refusal .ok)) (fits64 (w-pos 0) tt) (c .if1 .left)
+passed : (c : tie.Else1) → turnRefusal (c .before .before .args .p) (c .before .before .args .q) (c .before .before .args .s) ≡ pos 0
+passed c = let r = c .before .turn-refusal in not-refused (r .result) (r .ok) (r .ensures) (c .if1 .left)
 
 turn-refusal-requires : tie.Need-turn-refusal-requires
 turn-refusal-requires c κs = search needs
@@ -22,11 +19,11 @@ returns : tie.Need-returns
 returns c = says-refused _ (fits-ok (c .before .turn-refusal .result) (c .before .turn-refusal .ok)) (c .before .turn-refusal .ensures) (c .if1 .taken)
 
 turn-of-requires : tie.Need-turn-of-requires
-turn-of-requires c κs = let s = c .before .before in turn-accepts (s .args .p) (s .args .q) (s .args .s) (none c)
+turn-of-requires c κs = let s = c .before .before in turn-accepts (s .args .p) (s .args .q) (s .args .s) (passed c)
 
 returns-2 : tie.Need-returns-2
 returns-2 c =
-    (λ i. pos 0 ∷ (out-ok (c .turn-of .result) (c .turn-of .ok) ∙ c .turn-of .ensures) i ∷ []) ∙ sym (accepted _ (none (c .before)))
+    (λ i. pos 0 ∷ (out-ok (c .turn-of .result) (c .turn-of .ok) ∙ c .turn-of .ensures) i ∷ []) ∙ sym (accepted _ (passed (c .before)))
 
 pub turn-points-spec : {M : Type 1} → statement M
 turn-points-spec = tie.close (tie.spec turn-refusal-requires returns turn-of-requires returns-2)

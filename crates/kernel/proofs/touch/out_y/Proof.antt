@@ -1,24 +1,22 @@
 use mathlib.Core.Path.{sym, ap}
-use Rattle.whole.specs.Bound.{fits64, w-pos}
-use Rattle.whole.specs.Tests.{eq-taken, eq-left}
 use Rattle.sheet.specs.Figure.{outY}
 use Rattle.kernel.specs.Kinds.{side-one, side-two, side-three, side-four}
 use Rattle.kernel.proofs.touch.out_y.Statement.{statement}
 use Rattle.kernel.proofs.touch.out_y.Tie as tie
 
 returns : tie.Need-returns
-returns c = sym (ap outY (side-one (eq-taken (c .before .fits .n) (fits64 (w-pos 1) tt) (c .if1 .taken))))
+returns c = sym (ap outY (side-one (c .before .fits .n) (c .if1 .taken)))
 
 returns-2 : tie.Need-returns-2
-returns-2 c = sym (ap outY (side-two (eq-taken (c .before .before .fits .n) (fits64 (w-pos 2) tt) (c .if2 .taken))))
+returns-2 c = sym (ap outY (side-two (c .before .before .fits .n) (c .if2 .taken)))
 
 returns-3 : tie.Need-returns-3
-returns-3 c = sym (ap outY (side-three (eq-taken (c .before .before .before .fits .n) (fits64 (w-pos 3) tt) (c .if3 .taken))))
+returns-3 c = sym (ap outY (side-three (c .before .before .before .fits .n) (c .if3 .taken)))
 
 returns-4 : tie.Need-returns-4
 returns-4 c =
     let n = c .before .before .before .args .n in
-    sym (ap outY (side-four {n = n} (eq-left (c .before .before .if1 .left)) (eq-left (c .before .if2 .left)) (eq-left (c .if3 .left))))
+    sym (ap outY (side-four n (c .before .before .if1 .left) (c .before .if2 .left) (c .if3 .left)))
 
 pub out-y-spec : {M : Type 1} → statement M
 out-y-spec = tie.close (tie.spec returns returns-2 returns-3 returns-4)

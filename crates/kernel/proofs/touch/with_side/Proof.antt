@@ -5,15 +5,15 @@ use Rattle.whole.specs.Laws.{eq-of-sub}
 use Rattle.whole.specs.Ring.{var}
 use Rattle.whole.specs.Flat as flat
 use Rattle.whole.specs.Flat.{All, _also_, mach, need, gives, held}
-use Rattle.whole.specs.Bound.{Within, fits64, w-pos}
-use Rattle.whole.specs.Tests.{out, out-is, out-ok, eq-taken, eq-left}
+use Rattle.whole.specs.Bound.{Within}
+use Rattle.whole.specs.Tests.{out, out-is, out-ok, eq-left}
 use Rattle.sheet.specs.declared.Object.{Object}
 use Rattle.sheet.specs.Figure.{_⇀_, outX, outY, sideOf, first, second}
 use Rattle.sheet.specs.RefusalLaws.{Proper}
 use Rattle.sheet.specs.Ends.{farEnd, reverse}
 use Rattle.sheet.specs.Crossing.{none}
 use Rattle.kernel.specs.Bounds.{Ahead, Out}
-use Rattle.kernel.specs.Kinds.{accepted-pair}
+use Rattle.kernel.specs.Kinds.{lit-taken, accepted-pair}
 use Rattle.kernel.specs.Pieces.{at, object, endBy, sidesBy, out-within, with-segment, with-ray, with-side, with-line}
 use Rattle.kernel.proofs.Eight.{dxE, dyE, say}
 use borrow.Author.Needs.{needs}
@@ -94,7 +94,7 @@ near c = λ i. farEnd (p-out (start (c .before)) i) (reverse (d-out c i))
 returns : tie.Need-returns
 returns c =
     let s = c .before in
-    sym (ap say (with-segment (sideOf (s .args .n)) (o s) (eq-taken (s .fits .kind) (fits64 (w-pos 1) tt) (c .if1 .taken))))
+    sym (ap say (with-segment (sideOf (s .args .n)) (o s) (lit-taken 1 tt (s .fits .kind) (c .if1 .taken))))
 
 out-x-requires : tie.Need-out-x-requires
 out-x-requires c κs = search needs
@@ -119,7 +119,7 @@ returns-2 c =
     let t = d .before .before in
     let s = start (t .before) in
     c .sides .ensures ∙ (λ i. say (sidesBy (ox-is (t .before .before) i) (oy-is (t .before) i) (ux-is (d .before) i) (uy-is d i)))
-    ∙ sym (ap say (with-side (sideOf (s .args .n)) (o s) (eq-taken (s .fits .kind) (fits64 (w-pos 4) tt) (t .if2 .taken))))
+    ∙ sym (ap say (with-side (sideOf (s .args .n)) (o s) (lit-taken 4 tt (s .fits .kind) (t .if2 .taken))))
 
 sub-dx : tie.Need-sub-dx
 sub-dx c = let s = start (c .before) in need (bounds s (proper c)) dxE tt
@@ -136,7 +136,7 @@ returns-3 c =
     let s = start (t .before) in
     c .with-end .ensures
     ∙ (λ i. say (endBy (ox-is (t .before .before) i) (oy-is (t .before) i) (far t i) none))
-    ∙ sym (ap say (with-ray (sideOf (s .args .n)) (o s) (eq-taken (s .fits .kind) (fits64 (w-pos 2) tt) (c .before .if3 .taken))))
+    ∙ sym (ap say (with-ray (sideOf (s .args .n)) (o s) (lit-taken 2 tt (s .fits .kind) (c .before .if3 .taken))))
 
 with-line-requires : tie.Need-with-line-requires
 with-line-requires c κs = (outward (c .before .before), ahead (c .before))
