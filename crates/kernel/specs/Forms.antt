@@ -1,28 +1,27 @@
 -- The forms in which the code computes what the paper defines, and that they are the same. To cite:
---   isFlat, far-flat, far-steep   which form of the far end, by one test
---   flat-moves, steep-moves, flat-is, steep-is   its w is above 0; its numbers with fewer products
+--   isFlat, flat-form, steep-form   which form the far end has, by one test, and that its w is above 0
+--   flat-is, steep-is     its numbers with fewer products
 --   pairSide              the side of the line from p to q
 --   mixed-is              the coefficient of R in the turn is a sum of two determinants
 --   divisor-bounds        the common divisor is above 0 and small
 -- Assumes nothing.
-use mathlib.Core.Path.{_≡_, sym, _∙_, ap}
-use mathlib.Core.Logic.{_⊎_, inl, inr}
-use mathlib.Core.Bool.{Bool, true, false, cond, _&&_, _||_}
+use mathlib.Core.Path.{_≡_, sym, _∙_, ap, subst}
+use mathlib.Core.Bool.{Bool, true, false, _&&_, _||_}
 use mathlib.Core.List.{[], _∷_}
 use Prim.Native.Nat.{_<_, _≤_}
 use native.Mathlib.Nat.{le-trans, le-of-dvd}
 use native.Mathlib.Omega.{arith}
-use lib.IntN.{ℤ, pos, negℤ, natAbs, _+ℤ_, _-ℤ_, _*ℤ_, ℤ-discrete}
-use lib.Signed.{ltZ, leZ, _≤ℤ_, _<ℤ_, clashℤ}
+use lib.IntN.{ℤ, pos, negℤ, natAbs, _+ℤ_, _-ℤ_, _*ℤ_, *ℤ-zero}
+use lib.Signed.{ltZ, leZ, _<ℤ_, clashℤ}
 use Rattle.whole.specs.Sign.{sgn}
 use Rattle.whole.specs.SignLaws.{sgn-abs, size-above}
-use Rattle.whole.specs.Tests.{eqZ, eqZ-true, eq-eqZ, ltZ-true, ltZ-false, lt-ltZ, le-ltZ}
+use Rattle.whole.specs.Tests.{eqZ, eq-eqZ, ne-eqZ, lt-ltZ, le-ltZ, le-leZ, lt-leZ}
 use Rattle.sheet.specs.declared.Point.{Point}
-use Rattle.sheet.specs.Flags.{both, neither, either, not-both}
 use Rattle.sheet.specs.Ends.{flat, steep, farRaw}
+use Rattle.sheet.specs.EndsLaws.{Far, far, flatter, steeper, tie-flat, tie-steep}
 use Rattle.whole.specs.Poly.{first}
 use Rattle.whole.specs.Reify.{reify, reading, solve}
-use Rattle.whole.specs.Order.{pp-dest, nn-pos, ≤-trans, ≤-<-trans, ≤-antisym, ≤-of, le-or-lt}
+use Rattle.whole.specs.Order.{pp-dest, nn-pos, ≤-<-trans, ≤-of, <-≤}
 use Rattle.whole.specs.Divisor.{gcdOf}
 use Rattle.whole.specs.DivisorLaws.{gcdOf-above}
 use Rattle.sheet.specs.PointsLaws.{divides-w}
@@ -34,62 +33,41 @@ use Rattle.kernel.specs.Bounds.{Raw}
 abbrev pub isFlat : ℤ → ℤ → ℤ → Bool
 isFlat dx dy k = ltZ (size dy) (size dx) || (eqZ (size dx) (size dy) && leZ (sgn dx *ℤ sgn dy *ℤ k) (pos 0))
 
--- a size is 0 of 0 alone, and is not below 0
-size-zero : (z : ℤ) → size z ≤ℤ pos 0 → z ≡ pos 0
-size-zero z h = go (ℤ-discrete z (pos 0))
-  where
-    go : Dec (z ≡ pos 0) → z ≡ pos 0
-    go (yes e) = e
-    go (no n) = absurd (clashℤ (size-above n) h)
+-- equal sizes that are not both 0
+tie-above : (a b : ℤ) → size b ≡ size a → (a ≡ pos 0 → b ≡ pos 0 → ⊥) → pos 0 <ℤ size a
+tie-above a b q n = size-above (λ z. n z (sym (sgn-abs b) ∙ ap (λ (s : ℤ). sgn b *ℤ s) (q ∙ ap size z) ∙ *ℤ-zero (sgn b)))
+
+-- which form the test finds, and that its w is above 0
+data Form (dx dy k : ℤ) : Bool → Type 0 where
+  is-flat : farRaw dx dy k ≡ flat dx dy k → pos 0 <ℤ size dx → Form dx dy k true
+  is-steep : farRaw dx dy k ≡ steep dx dy k → pos 0 <ℤ size dy → Form dx dy k false
 
 module _ (dx dy k : ℤ) where
-  pub far-flat : isFlat dx dy k ≡ true → farRaw dx dy k ≡ flat dx dy k
-  unfolding farRaw
-  far-flat h = go (either (ltZ (size dy) (size dx)) (eqZ (size dx) (size dy) && leZ (sgn dx *ℤ sgn dy *ℤ k) (pos 0)) .0 h)
+  form : (dx ≡ pos 0 → dy ≡ pos 0 → ⊥) → Form dx dy k (isFlat dx dy k)
+  form n = go (far dx dy k)
     where
-      go : (ltZ (size dy) (size dx) ≡ true) ⊎ ((eqZ (size dx) (size dy) && leZ (sgn dx *ℤ sgn dy *ℤ k) (pos 0)) ≡ true)
-          → cond (ltZ (size dy) (size dx)) (flat dx dy k)
-          (cond (ltZ (size dx) (size dy)) (steep dx dy k)
-          (cond (leZ (sgn dx *ℤ sgn dy *ℤ k) (pos 0)) (flat dx dy k) (steep dx dy k)))
-          ≡ flat dx dy k
-      go (inl e) = simp e
-      go (inr e) =
-          let f = both (eqZ (size dx) (size dy)) (leZ (sgn dx *ℤ sgn dy *ℤ k) (pos 0)) .0 e in
-          let q = eqZ-true {a = size dx} {b = size dy} (f .0) in
-          simp (le-ltZ (≤-of q), le-ltZ (≤-of (sym q)), f .1)
+      by : {t : Bool} → isFlat dx dy k ≡ t → Form dx dy k t → Form dx dy k (isFlat dx dy k)
+      by e = subst (Form dx dy k) (sym e)
 
-  pub far-steep : isFlat dx dy k ≡ false → farRaw dx dy k ≡ steep dx dy k
-  unfolding farRaw
-  far-steep h = go (le-or-lt (size dy) (size dx))
+      go : Far dx dy k → Form dx dy k (isFlat dx dy k)
+      go (flatter l e) = by (simp (lt-ltZ l)) (is-flat e (≤-<-trans (nn-pos (natAbs dy)) l))
+      go (steeper l e) =
+          by (simp (le-ltZ (<-≤ l), ne-eqZ (λ q. clashℤ l (≤-of (sym q))))) (is-steep e (≤-<-trans (nn-pos (natAbs dx)) l))
+      go (tie-flat q t e) = by (simp (eq-eqZ (sym q), le-ltZ (≤-of (sym q)), le-leZ t)) (is-flat e (tie-above dx dy q n))
+      go (tie-steep q t e) =
+          by (simp (eq-eqZ (sym q), le-ltZ (≤-of (sym q)), lt-leZ t)) (is-steep e (tie-above dy dx (sym q) (λ y x. n x y)))
+
+  pub flat-form : (dx ≡ pos 0 → dy ≡ pos 0 → ⊥) → isFlat dx dy k ≡ true → (farRaw dx dy k ≡ flat dx dy k) × (pos 0 <ℤ size dx)
+  flat-form n h = go (subst (Form dx dy k) h (form n))
     where
-      f : (ltZ (size dy) (size dx) ≡ false) × ((eqZ (size dx) (size dy) && leZ (sgn dx *ℤ sgn dy *ℤ k) (pos 0)) ≡ false)
-      f = neither (ltZ (size dy) (size dx)) (eqZ (size dx) (size dy) && leZ (sgn dx *ℤ sgn dy *ℤ k) (pos 0)) .0 h
+      go : Form dx dy k true → (farRaw dx dy k ≡ flat dx dy k) × (pos 0 <ℤ size dx)
+      go (is-flat e a) = (e, a)
 
-      go : (size dy ≤ℤ size dx) ⊎ (size dx <ℤ size dy)
-          → cond (ltZ (size dy) (size dx)) (flat dx dy k)
-          (cond (ltZ (size dx) (size dy)) (steep dx dy k)
-          (cond (leZ (sgn dx *ℤ sgn dy *ℤ k) (pos 0)) (flat dx dy k) (steep dx dy k)))
-          ≡ steep dx dy k
-      go (inr l) = simp (f .0, lt-ltZ l)
-      go (inl l) =
-          let q = ≤-antisym (ltZ-false (f .0)) l in
-          simp (f .0, le-ltZ l, not-both (eqZ (size dx) (size dy)) (leZ (sgn dx *ℤ sgn dy *ℤ k) (pos 0)) .0 (f .1) (eq-eqZ q))
-
-  -- the direction's larger number is not 0
-  pub flat-moves : (dx ≡ pos 0 → dy ≡ pos 0 → ⊥) → isFlat dx dy k ≡ true → pos 0 <ℤ size dx
-  flat-moves n h = go (either (ltZ (size dy) (size dx)) (eqZ (size dx) (size dy) && leZ (sgn dx *ℤ sgn dy *ℤ k) (pos 0)) .0 h)
+  pub steep-form : (dx ≡ pos 0 → dy ≡ pos 0 → ⊥) → isFlat dx dy k ≡ false → (farRaw dx dy k ≡ steep dx dy k) × (pos 0 <ℤ size dy)
+  steep-form n h = go (subst (Form dx dy k) h (form n))
     where
-      go : (ltZ (size dy) (size dx) ≡ true) ⊎ ((eqZ (size dx) (size dy) && leZ (sgn dx *ℤ sgn dy *ℤ k) (pos 0)) ≡ true)
-          → pos 0 <ℤ size dx
-      go (inl e) = ≤-<-trans (nn-pos (natAbs dy)) (ltZ-true e)
-      go (inr e) =
-          let q = eqZ-true {a = size dx} {b = size dy} (both (eqZ (size dx) (size dy)) (leZ (sgn dx *ℤ sgn dy *ℤ k) (pos 0)) .0 e .0) in
-          size-above (λ z. n z (size-zero dy (≤-of (sym q ∙ ap size z))))
-
-  pub steep-moves : (dx ≡ pos 0 → dy ≡ pos 0 → ⊥) → isFlat dx dy k ≡ false → pos 0 <ℤ size dy
-  steep-moves n h =
-      let l = ltZ-false (neither (ltZ (size dy) (size dx)) (eqZ (size dx) (size dy) && leZ (sgn dx *ℤ sgn dy *ℤ k) (pos 0)) .0 h .0) in
-      size-above (λ z. n (size-zero dx (≤-trans l (≤-of (ap size z)))) z)
+      go : Form dx dy k false → (farRaw dx dy k ≡ steep dx dy k) × (pos 0 <ℤ size dy)
+      go (is-steep e a) = (e, a)
 
   -- sx |dx| is dx
   pub flat-is : flat dx dy k ≡ record { mx = dx; nx = pos 0; my = dy; ny = sgn dx *ℤ k; w = size dx }

@@ -1,9 +1,6 @@
 use mathlib.Core.Path.{sym, _∙_, ap}
-use mathlib.Core.List.{[], _∷_}
 use lib.IntN.{ℤ}
-use Rattle.whole.specs.Laws.{eq-of-sub}
-use Rattle.whole.specs.Ring.{var, _⊖_}
-use Rattle.whole.specs.Flat.{All, none, _also_, need, gives, held}
+use Rattle.whole.specs.Flat.{need}
 use Rattle.whole.specs.Tests.{out-is, eq-left}
 use Rattle.sheet.specs.declared.Object.{Object}
 use Rattle.sheet.specs.Figure.{sideOf, first, second}
@@ -11,19 +8,18 @@ use Rattle.sheet.specs.RefusalLaws.{Proper}
 use Rattle.sheet.specs.Points.{given}
 use Rattle.sheet.specs.Ends.{farEnd, begins, nextSide}
 use Rattle.kernel.specs.Kinds.{lit-taken, accepted-pair, last-side, last-given, last-far}
+use Rattle.kernel.specs.Pieces.{object}
+use Rattle.kernel.proofs.Eight.{dxE, dyE}
+use Rattle.kernel.proofs.Ahead.{place, pair, way, ahead}
 use borrow.Author.Needs.{needs}
 use Rattle.kernel.proofs.ends.last_end.Statement.{statement}
 use Rattle.kernel.proofs.ends.last_end.Tie as tie
 
-abbrev object : tie.Start → Object
-object s = record { kind = s .args .kind; px = s .args .px; py = s .args .py; qx = s .args .qx; qy = s .args .qy }
+abbrev o : tie.Start → Object
+o s = object (s .args .kind) (s .args .px) (s .args .py) (s .args .qx) (s .args .qy)
 
--- px, py, qx, qy
-bounds : (s : tie.Start) → Proper (first (object s)) (second (object s)) → All (2000 ∷ 2000 ∷ 2000 ∷ 2000 ∷ []) (s .args .px ∷ s .args .py ∷ s .args .qx ∷ s .args .qy ∷ [])
-bounds s p = p .small-p .in-x also p .small-p .in-y also p .small-q .in-x also p .small-q .in-y also none
-
-proper : (c : tie.Else2) → Proper (first (object (c .before .before))) (second (object (c .before .before)))
-proper c = accepted-pair (object (c .before .before)) (c .before .before .pre) (eq-left (c .before .if1 .left))
+proper : (c : tie.Else2) → Proper (first (o (c .before .before))) (second (o (c .before .before)))
+proper c = accepted-pair (o (c .before .before)) (c .before .before .pre) (eq-left (c .before .if1 .left))
 
 side-stops-requires : tie.Need-side-stops-requires
 side-stops-requires c κs = search needs
@@ -32,7 +28,7 @@ returns : tie.Need-returns
 returns c =
     let s = c .before .before in
     let four = lit-taken 4 tt (s .fits .kind) (c .before .if1 .taken) in
-    c .side-stops .ensures ∙ ap (λ (n : ℤ). begins (nextSide (sideOf n))) (out-is (s .fits .px)) ∙ sym (last-side (object s) four)
+    c .side-stops .ensures ∙ ap (λ (n : ℤ). begins (nextSide (sideOf n))) (out-is (s .fits .px)) ∙ sym (last-side (o s) four)
 
 given-point-requires : tie.Need-given-point-requires
 given-point-requires c κs = search needs
@@ -42,37 +38,24 @@ returns-2 c =
     let s = c .before .before .before in
     let one = lit-taken 1 tt (s .fits .kind) (c .before .if2 .taken) in
     c .given-point .ensures
-    ∙ (λ i. given (record { x = out-is (s .fits .qx) i; y = out-is (s .fits .qy) i })) ∙ sym (last-given (object s) one)
+    ∙ (λ i. given (record { x = out-is (s .fits .qx) i; y = out-is (s .fits .qy) i })) ∙ sym (last-given (o s) one)
 
 sub-dx : tie.Need-sub-dx
-sub-dx c = let s = c .before .before in need (bounds s (proper c)) (var 2 ⊖ var 0) tt
+sub-dx c = need (pair (proper c)) dxE tt
 
 sub-dy : tie.Need-sub-dy
-sub-dy c = let s = c .before .before in need (bounds s (proper c)) (var 3 ⊖ var 1) tt
+sub-dy c = need (pair (proper c)) dyE tt
 
 far-end-requires : tie.Need-far-end-requires
-far-end-requires c κs =
-    let s = c .before .before in
-    let p = proper c in
-    let b = bounds s p in
-    record {
-      bpx = held b (var 0) tt;
-      bpy = held b (var 1) tt;
-      bdx = held b (var 2 ⊖ var 0) tt;
-      bdy = held b (var 3 ⊖ var 1) tt;
-      moves =
-          λ e f. p .differ (sym (eq-of-sub _ _ (sym (gives b (var 2 ⊖ var 0) tt) ∙ e))) (sym (eq-of-sub _ _ (sym (gives b (var 3 ⊖ var 1) tt) ∙ f)));
-    }
+far-end-requires c κs = let h = proper c in ahead h (h .small-p)
 
 returns-3 : tie.Need-returns-3
 returns-3 c =
     let s = c .before .before .before in
-    let b = bounds s (proper (c .before)) in
-    let x = gives b (var 2 ⊖ var 0) tt in
-    let y = gives b (var 3 ⊖ var 1) tt in
+    let h = proper (c .before) in
     c .far-end .ensures
-    ∙ (λ i. farEnd (record { x = out-is (s .fits .px) i; y = out-is (s .fits .py) i }) (record { x = x i; y = y i }))
-    ∙ sym (last-far (object s) (s .pre) (eq-left (c .before .before .if1 .left)) (eq-left (c .before .if2 .left)))
+    ∙ (λ i. farEnd (place (h .small-p) i) (way h i))
+    ∙ sym (last-far (o s) (s .pre) (eq-left (c .before .before .if1 .left)) (eq-left (c .before .if2 .left)))
 
 pub last-end-spec : {M : Type 1} → statement M
 last-end-spec =

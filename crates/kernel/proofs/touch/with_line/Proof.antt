@@ -1,88 +1,65 @@
-use mathlib.Core.Path.{_≡_, sym, _∙_, ap}
-use mathlib.Core.Bool.{Bool, cond}
-use Rattle.whole.specs.Tests.{out, out-is}
-use Rattle.sheet.specs.Figure.{Vec}
-use Rattle.sheet.specs.Ends.{farEnd, reverse}
-use Rattle.sheet.specs.Crossing.{Meeting, none, point}
-use Rattle.kernel.specs.Pieces.{at, onBy, endBy}
-use Rattle.kernel.proofs.Eight.{say}
+use mathlib.Core.Path.{sym, _∙_, ap}
 use lib.IntN.{pos, negℤ, +ℤ-idl}
 use Rattle.whole.specs.Laws.{eq-of-sub}
 use Rattle.whole.specs.Ring.{var, lit, _⊖_}
-use Rattle.whole.specs.Flat as flat
-use Rattle.whole.specs.Flat.{_also_, need, gives, held}
-use borrow.Author.Needs.{needs}
+use Rattle.whole.specs.Flat.{need, gives, held}
+use Rattle.whole.specs.Tests.{out-is}
+use Rattle.sheet.specs.Ends.{farEnd, reverse}
+use Rattle.sheet.specs.Crossing.{Meeting, none}
+use Rattle.kernel.specs.Pieces.{at, endBy}
+use Rattle.kernel.proofs.Eight.{say}
+use Rattle.kernel.proofs.Ahead.{four, ahead-out, outward, on-end, off-end}
 use Rattle.kernel.proofs.touch.with_line.Statement.{statement}
 use Rattle.kernel.proofs.touch.with_line.Tie as tie
 
-abbrev p : tie.Start → Vec
-p s = at (s .args .px) (s .args .py)
-
-abbrev d : tie.Start → Vec
-d s = at (s .args .dx) (s .args .dy)
-
--- the place and the direction as they are handed on
-p-out : (s : tie.Start) → at (out (s .args .px)) (out (s .args .py)) ≡ p s
-p-out s = λ i. at (out-is (s .fits .px) i) (out-is (s .fits .py) i)
-
-d-out : (s : tie.Start) → at (out (s .args .dx)) (out (s .args .dy)) ≡ d s
-d-out s = λ i. at (out-is (s .fits .dx) i) (out-is (s .fits .dy) i)
-
--- what the test says
-flag : (c : tie.After-is-on) → onBy (c .before .args .ox) (c .before .args .oy) (farEnd (p (c .before)) (d (c .before))) ≡ c .is-on .result
-flag c =
-    let s = c .before in
-    sym (c .is-on .ensures ∙ (λ i. onBy (out-is (s .fits .ox) i) (out-is (s .fits .oy) i) (farEnd (p-out s i) (d-out s i))))
-
 -- the other end
 abbrev otherwise : tie.Start → Meeting
-otherwise s = endBy (s .args .ox) (s .args .oy) (farEnd (p s) (reverse (d s))) none
+otherwise s = endBy (s .args .ox) (s .args .oy) (farEnd (at (s .args .px) (s .args .py)) (reverse (at (s .args .dx) (s .args .dy)))) none
 
 is-on-requires : tie.Need-is-on-requires
-is-on-requires c κs = search needs
+is-on-requires c κs = (outward (c .pre .0), ahead-out (c .pre .1))
 
 far-end-requires : tie.Need-far-end-requires
-far-end-requires c κs = search needs
+far-end-requires c κs = ahead-out (c .before .before .pre .1)
 
 returns : tie.Need-returns
 returns c =
     let s = c .before .before .before in
-    let e = c .far-end .ensures ∙ (λ i. farEnd (p-out s i) (d-out s i)) in
-    (λ i. say (point (e i)))
-    ∙ sym (ap (λ (t : Bool). say (cond t (point (farEnd (p s) (d s))) (otherwise s))) (flag (c .before .before) ∙ c .before .if1 .taken))
+    ap say (on-end (s .pre .0) (s .pre .1) (c .before .before .is-on .ensures) (otherwise s) (c .far-end .ensures) (c .before .if1 .taken))
 
 sub-back : tie.Need-sub-back
-sub-back c = let s = c .before .before in need (s .pre .1 .bdx also flat.none) (lit 0 ⊖ var 0) tt
+sub-back c = need (four (c .before .before .pre .1)) (lit 0 ⊖ var 2) tt
 
 sub-down : tie.Need-sub-down
-sub-down c = let s = c .before .before in need (s .pre .1 .bdy also flat.none) (lit 0 ⊖ var 0) tt
+sub-down c = need (four (c .before .before .pre .1)) (lit 0 ⊖ var 3) tt
 
 with-end-requires : tie.Need-with-end-requires
 with-end-requires c κs =
-    let s = c .before .before in
-    let h = s .pre .1 in (
-      record { box = held (s .pre .0 .box also flat.none) (var 0) tt; boy = held (s .pre .0 .boy also flat.none) (var 0) tt },
+    let h = c .before .before .pre in
+    let b = four (h .1) in (
+      outward (h .0),
       record {
-        bpx = held (h .bpx also flat.none) (var 0) tt;
-        bpy = held (h .bpy also flat.none) (var 0) tt;
-        bdx = held (h .bdx also flat.none) (lit 0 ⊖ var 0) tt;
-        bdy = held (h .bdy also flat.none) (lit 0 ⊖ var 0) tt;
+        bpx = held b (var 0) tt;
+        bpy = held b (var 1) tt;
+        bdx = held b (lit 0 ⊖ var 2) tt;
+        bdy = held b (lit 0 ⊖ var 3) tt;
         moves =
-            λ e f. h .moves
-            (sym (eq-of-sub (pos 0) (s .args .dx) (sym (gives (h .bdx also flat.none) (lit 0 ⊖ var 0) tt) ∙ e)))
-            (sym (eq-of-sub (pos 0) (s .args .dy) (sym (gives (h .bdy also flat.none) (lit 0 ⊖ var 0) tt) ∙ f)));
+            λ e f. h .1 .moves
+            (sym (eq-of-sub (pos 0) _ (sym (gives b (lit 0 ⊖ var 2) tt) ∙ e)))
+            (sym (eq-of-sub (pos 0) _ (sym (gives b (lit 0 ⊖ var 3) tt) ∙ f)));
       },
     )
 
 returns-2 : tie.Need-returns-2
 returns-2 c =
     let s = c .before .before .before in
-    let h = s .pre .1 in
-    let back = gives (h .bdx also flat.none) (lit 0 ⊖ var 0) tt ∙ +ℤ-idl (negℤ (s .args .dx)) in
-    let down = gives (h .bdy also flat.none) (lit 0 ⊖ var 0) tt ∙ +ℤ-idl (negℤ (s .args .dy)) in
+    let b = four (s .pre .1) in
+    let back = gives b (lit 0 ⊖ var 2) tt ∙ +ℤ-idl (negℤ (s .args .dx)) in
+    let down = gives b (lit 0 ⊖ var 3) tt ∙ +ℤ-idl (negℤ (s .args .dy)) in
     c .with-end .ensures
-    ∙ (λ i. say (endBy (out-is (s .fits .ox) i) (out-is (s .fits .oy) i) (farEnd (p-out s i) (at (back i) (down i))) none))
-    ∙ sym (ap (λ (t : Bool). say (cond t (point (farEnd (p s) (d s))) (otherwise s))) (flag (c .before .before) ∙ c .before .if1 .left))
+    ∙ (λ i. say (endBy (out-is (s .fits .ox) i) (out-is (s .fits .oy) i)
+    (farEnd (at (out-is (s .fits .px) i) (out-is (s .fits .py) i)) (at (back i) (down i))) none))
+    ∙ ap say (off-end (s .pre .0) (s .pre .1) (c .before .before .is-on .ensures) (otherwise s) (c .before .if1 .left))
 
 pub with-line-spec : {M : Type 1} → statement M
 with-line-spec =

@@ -1,21 +1,18 @@
 use mathlib.Core.Path.{_≡_, sym, _∙_, ap, subst}
-use mathlib.Core.List.{List, [], _∷_}
 use lib.IntN.{ℤ}
-use Rattle.whole.specs.Laws.{eq-of-sub}
-use Rattle.whole.specs.Ring.{var}
-use Rattle.whole.specs.Flat as flat
-use Rattle.whole.specs.Flat.{All, _also_, mach, need, gives, held}
+use Rattle.whole.specs.Flat.{need}
 use Rattle.whole.specs.Bound.{Within}
 use Rattle.whole.specs.Tests.{out, out-is, out-ok, eq-left}
 use Rattle.sheet.specs.declared.Object.{Object}
-use Rattle.sheet.specs.Figure.{_⇀_, outX, outY, sideOf, first, second}
+use Rattle.sheet.specs.Figure.{outX, outY, sideOf, first, second}
 use Rattle.sheet.specs.RefusalLaws.{Proper}
 use Rattle.sheet.specs.Ends.{farEnd, reverse}
 use Rattle.sheet.specs.Crossing.{none}
-use Rattle.kernel.specs.Bounds.{Ahead, Out}
+use Rattle.kernel.specs.Bounds.{Out}
 use Rattle.kernel.specs.Kinds.{lit-taken, accepted-pair}
-use Rattle.kernel.specs.Pieces.{at, object, endBy, sidesBy, out-within, with-segment, with-ray, with-side, with-line}
+use Rattle.kernel.specs.Pieces.{object, endBy, sidesBy, out-within, with-segment, with-ray, with-side, with-line}
 use Rattle.kernel.proofs.Eight.{dxE, dyE, say}
+use Rattle.kernel.proofs.Ahead.{place, pair, way, ahead}
 use borrow.Author.Needs.{needs}
 use Rattle.kernel.proofs.touch.with_side.Statement.{statement}
 use Rattle.kernel.proofs.touch.with_side.Tie as tie
@@ -49,47 +46,8 @@ both e f h = record { box = subst (Within 1) (sym e) (h .box); boy = subst (With
 outward : (c : tie.After-out-y) → Out (out (c .before .out-x .result)) (out (c .out-y .result))
 outward c = both (ox-is (c .before)) (oy-is c) (out-within (sideOf (start c .args .n)))
 
--- px, py, qx, qy
-abbrev ρ : tie.Start → List ℤ
-ρ s = s .args .px ∷ s .args .py ∷ s .args .qx ∷ s .args .qy ∷ []
-
-bounds : (s : tie.Start) → Proper (first (o s)) (second (o s)) → All (2000 ∷ 2000 ∷ 2000 ∷ 2000 ∷ []) (ρ s)
-bounds s p = p .small-p .in-x also p .small-p .in-y also p .small-q .in-x also p .small-q .in-y also flat.none
-
 proper : (c : tie.Else2) → Proper (first (o (start (c .before)))) (second (o (start (c .before))))
 proper c = let s = start (c .before) in accepted-pair (o s) (s .pre) (eq-left (c .if2 .left))
-
-ahead : (c : tie.Else2) → let s = start (c .before) in Ahead (out (s .args .px)) (out (s .args .py)) (mach (ρ s) dxE) (mach (ρ s) dyE)
-ahead c =
-    let p = proper c in
-    let b = bounds (start (c .before)) p in
-    record {
-      bpx = held b (var 0) tt;
-      bpy = held b (var 1) tt;
-      bdx = held b dxE tt;
-      bdy = held b dyE tt;
-      moves =
-          λ e f. p .differ (sym (eq-of-sub _ _ (sym (gives b dxE tt) ∙ e))) (sym (eq-of-sub _ _ (sym (gives b dyE tt) ∙ f)));
-    }
-
--- the two far ends as the callee names them
-p-out : (s : tie.Start) → at (out (s .args .px)) (out (s .args .py)) ≡ first (o s)
-p-out s = λ i. at (out-is (s .fits .px) i) (out-is (s .fits .py) i)
-
-d-out : (c : tie.Else2) → let s = start (c .before) in at (mach (ρ s) dxE) (mach (ρ s) dyE) ≡ first (o s) ⇀ second (o s)
-d-out c = let b = bounds (start (c .before)) (proper c) in λ i. at (gives b dxE tt i) (gives b dyE tt i)
-
-far : (c : tie.Else2) →
-    let s = start (c .before) in
-    farEnd (at (out (s .args .px)) (out (s .args .py))) (at (mach (ρ s) dxE) (mach (ρ s) dyE))
-    ≡ farEnd (first (o s)) (first (o s) ⇀ second (o s))
-far c = λ i. farEnd (p-out (start (c .before)) i) (d-out c i)
-
-near : (c : tie.Else2) →
-    let s = start (c .before) in
-    farEnd (at (out (s .args .px)) (out (s .args .py))) (reverse (at (mach (ρ s) dxE) (mach (ρ s) dyE)))
-    ≡ farEnd (first (o s)) (reverse (first (o s) ⇀ second (o s)))
-near c = λ i. farEnd (p-out (start (c .before)) i) (reverse (d-out c i))
 
 returns : tie.Need-returns
 returns c =
@@ -122,24 +80,25 @@ returns-2 c =
     ∙ sym (ap say (with-side (sideOf (s .args .n)) (o s) (lit-taken 4 tt (s .fits .kind) (t .if2 .taken))))
 
 sub-dx : tie.Need-sub-dx
-sub-dx c = let s = start (c .before) in need (bounds s (proper c)) dxE tt
+sub-dx c = need (pair (proper c)) dxE tt
 
 sub-dy : tie.Need-sub-dy
-sub-dy c = let s = start (c .before) in need (bounds s (proper c)) dyE tt
+sub-dy c = need (pair (proper c)) dyE tt
 
 with-end-requires : tie.Need-with-end-requires
-with-end-requires c κs = (outward (c .before .before), ahead (c .before))
+with-end-requires c κs = let h = proper (c .before) in (outward (c .before .before), ahead h (h .small-p))
 
 returns-3 : tie.Need-returns-3
 returns-3 c =
     let t = c .before .before in
     let s = start (t .before) in
+    let h = proper t in
     c .with-end .ensures
-    ∙ (λ i. say (endBy (ox-is (t .before .before) i) (oy-is (t .before) i) (far t i) none))
+    ∙ (λ i. say (endBy (ox-is (t .before .before) i) (oy-is (t .before) i) (farEnd (place (h .small-p) i) (way h i)) none))
     ∙ sym (ap say (with-ray (sideOf (s .args .n)) (o s) (lit-taken 2 tt (s .fits .kind) (c .before .if3 .taken))))
 
 with-line-requires : tie.Need-with-line-requires
-with-line-requires c κs = (outward (c .before .before), ahead (c .before))
+with-line-requires c κs = let h = proper (c .before) in (outward (c .before .before), ahead h (h .small-p))
 
 returns-4 : tie.Need-returns-4
 returns-4 c =
@@ -147,8 +106,10 @@ returns-4 c =
     let s = start (t .before) in
     let x = ox-is (t .before .before) in
     let y = oy-is (t .before) in
+    let h = proper t in
+    let p = place (h .small-p) in
     c .with-line .ensures
-    ∙ (λ i. say (endBy (x i) (y i) (far t i) (endBy (x i) (y i) (near t i) none)))
+    ∙ (λ i. say (endBy (x i) (y i) (farEnd (p i) (way h i)) (endBy (x i) (y i) (farEnd (p i) (reverse (way h i))) none)))
     ∙ sym (ap say (with-line (sideOf (s .args .n)) (o s) (s .pre)
     (eq-left (t .before .before .before .if1 .left)) (eq-left (c .before .if3 .left)) (eq-left (t .if2 .left))))
 
