@@ -1,37 +1,47 @@
 -- The determinant of rows that are handed on. To cite:
---   row       a row of bounded numbers;  row-out  the same read out of locals;  det-out  the determinant is that of the numbers
+--   mm, mn, nm, nn   the rows of a narrow point: w with mx or nx, and my or ny
+--   row-out   a row read out of locals;  det-out  the determinant is that of the numbers
 --   one, two, three, detE, rows   the code's expressions, and the bounds of their variables;  det-within  its size
 use mathlib.Core.Path.{_≡_}
 use mathlib.Core.List.{List, [], _∷_}
 use Prim.Native.Nat.{ℕ}
 use lib.IntN.{ℤ}
 use Rattle.whole.specs.Ring.{Expr, var, _⊕_, _⊖_, _⊗_}
-use Rattle.whole.specs.Flat.{All, none, _also_, gives, held, small}
+use Rattle.whole.specs.Flat.{All, none, _also_, held, small, back}
 use Rattle.whole.specs.Bound.{Within}
 use Rattle.whole.specs.Tests.{out}
+use Rattle.sheet.specs.declared.Point.{Point}
 use Rattle.sheet.specs.Expansions.{det}
-use Rattle.kernel.specs.Bounds.{Row}
+use Rattle.kernel.specs.Bounds.{Row, NarrowSizes}
 
-pub row : {w x y : ℤ} → Within 4000 w → Within 8000000 x → Within 8000000 y → Row w x y
-row a b c = record { bw = a; bx = b; by = c }
+module _ {p : Point} (h : NarrowSizes p) where
+  pub mm : Row (p .w) (p .mx) (p .my)
+  mm = record { bw = h .bw; bx = h .bmx; by = h .bmy }
+
+  pub mn : Row (p .w) (p .mx) (p .ny)
+  mn = record { bw = h .bw; bx = h .bmx; by = h .bny }
+
+  pub nm : Row (p .w) (p .nx) (p .my)
+  nm = record { bw = h .bw; bx = h .bnx; by = h .bmy }
+
+  pub nn : Row (p .w) (p .nx) (p .ny)
+  nn = record { bw = h .bw; bx = h .bnx; by = h .bny }
 
 pub row-out : {w x y : ℤ} → Row w x y → Row (out w) (out x) (out y)
-row-out r = row (held (r .bw also none) (var 0) tt) (held (r .bx also none) (var 0) tt) (held (r .by also none) (var 0) tt)
+row-out r = record {
+  bw = held (r .bw also none) (var 0) tt;
+  bx = held (r .bx also none) (var 0) tt;
+  by = held (r .by also none) (var 0) tt;
+}
 
 pub det-out :
     {w1 x1 y1 w2 x2 y2 w3 x3 y3 : ℤ} → Row w1 x1 y1 → Row w2 x2 y2 → Row w3 x3 y3
     → det (out w1) (out x1) (out y1) (out w2) (out x2) (out y2) (out w3) (out x3) (out y3) ≡ det w1 x1 y1 w2 x2 y2 w3 x3 y3
-det-out {w1} {x1} {y1} {w2} {x2} {y2} {w3} {x3} {y3} p q s =
-    λ i. det (w p i) (x p i) (y p i) (w q i) (x q i) (y q i) (w s i) (x s i) (y s i)
-  where
-    w : {a b c : ℤ} → Row a b c → out a ≡ a
-    w r = gives (r .bw also none) (var 0) tt
-
-    x : {a b c : ℤ} → Row a b c → out b ≡ b
-    x r = gives (r .bx also none) (var 0) tt
-
-    y : {a b c : ℤ} → Row a b c → out c ≡ c
-    y r = gives (r .by also none) (var 0) tt
+det-out p q s =
+    λ i. det
+    (back (p .bw) tt i) (back (p .bx) tt i) (back (p .by) tt i)
+    (back (q .bw) tt i) (back (q .bx) tt i) (back (q .by) tt i)
+    (back (s .bw) tt i) (back (s .bx) tt i) (back (s .by) tt i)
 
 -- ---- the determinant as an expression
 

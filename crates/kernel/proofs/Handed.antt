@@ -1,5 +1,5 @@
 -- A struct that is handed on number by number is the struct: each number comes out of a local as it went in. To cite:
---   objectOut                 an object whose numbers come out of locals
+--   objectOut, pointOut       the struct of numbers that come out of locals
 --   object, point             from what is known of each number: `object o (s .fits .kind .sfits) (s .fits .px .sfits) ..`
 --   object-told, point-told   from what `struct-told` says of all five: `object-told o (c .struct-told .given)`
 use mathlib.Core.Path.{_≡_}
@@ -18,7 +18,7 @@ Fit z = mag z < 2 ^ hbits w64
 abbrev pub objectOut : Object → Object
 objectOut o = record { kind = out (o .kind); px = out (o .px); py = out (o .py); qx = out (o .qx); qy = out (o .qy) }
 
-abbrev pointOut : Point → Point
+abbrev pub pointOut : Point → Point
 pointOut p = record { mx = out (p .mx); nx = out (p .nx); my = out (p .my); ny = out (p .ny); w = out (p .w) }
 
 pub object : (o : Object) → Fit (o .kind) → Fit (o .px) → Fit (o .py) → Fit (o .qx) → Fit (o .qy) → objectOut o ≡ o

@@ -18,7 +18,7 @@ use Rattle.sheet.specs.Points.{isPoint, narrow}
 use Rattle.sheet.specs.PointsLaws.{Sizes, narrow-is, point-is, point-sizes}
 use Rattle.sheet.specs.Signs.{orderRefusal, turnRefusal, sideSignRefusal}
 use Rattle.sheet.specs.AcceptsLaws.{order-taken, turn-taken, side-taken}
-use Rattle.kernel.specs.Bounds.{Slim}
+use Rattle.kernel.specs.Bounds.{NarrowSizes}
 use Rattle.kernel.specs.Kinds.{lit-taken}
 
 pub not-refused : {n : ℤ} (r : ℤ) → mag r < 2 ^ hbits w64 → r ≡ n → ofZ w64 r ≡ 0 → n ≡ pos 0
@@ -27,8 +27,8 @@ not-refused r h e z = sym e ∙ lit-taken 0 tt (fits-ok r h) z
 sizes : (p : Point) → isPoint p ≡ true → Sizes p
 sizes p h = point-sizes (point-is p .0 h)
 
-slim : (p : Point) → isPoint p ≡ true → narrow p ≡ true → Slim p
-slim p h k =
+narrow-sizes : (p : Point) → isPoint p ≡ true → narrow p ≡ true → NarrowSizes p
+narrow-sizes p h k =
     let s = sizes p h in
     let n = narrow-is p .0 k in
     record {
@@ -42,8 +42,8 @@ slim p h k =
 pub order-accepts : (p q : Point) → orderRefusal p q ≡ pos 0 → Sizes p × Sizes q
 order-accepts p q h = let t = order-taken p q h in (sizes p (t .0), sizes q (t .1))
 
-pub turn-accepts : (p q s : Point) → turnRefusal p q s ≡ pos 0 → Slim p × Slim q × Slim s
-turn-accepts p q s h = let t = turn-taken p q s h in (slim p (t .0) (t .3), slim q (t .1) (t .4), slim s (t .2) (t .5))
+pub turn-accepts : (p q s : Point) → turnRefusal p q s ≡ pos 0 → NarrowSizes p × NarrowSizes q × NarrowSizes s
+turn-accepts p q s h = let t = turn-taken p q s h in (narrow-sizes p (t .0) (t .3), narrow-sizes q (t .1) (t .4), narrow-sizes s (t .2) (t .5))
 
 pub side-accepts : (o : Object) (s : Point) → sideSignRefusal o s ≡ pos 0 → Accepted o × Sizes s
 side-accepts o s h = let t = side-taken o s h in (t .0, sizes s (t .1))

@@ -37,8 +37,8 @@ pub record Ahead (px py dx dy : ℤ) : Type 0 where
   pub bdy : Within 4000 dy
   pub moves : dx ≡ pos 0 → dy ≡ pos 0 → ⊥
 
--- one coordinate of a point: m, n and w
-pub record Axis (m n w : ℤ) : Type 0 where
+-- one coordinate of a point, by its numbers m, n and w
+pub record Coordinate (m n w : ℤ) : Type 0 where
   pub bm : Within 4000 m
   pub bn : Within 64000000000 n
   pub bw : Within 32000000 w
@@ -49,8 +49,8 @@ pub record Row (w x y : ℤ) : Type 0 where
   pub bx : Within 8000000 x
   pub by : Within 8000000 y
 
--- a narrow point
-pub record Slim (p : Point) : Type 0 where
+-- the five numbers of a narrow point
+pub record NarrowSizes (p : Point) : Type 0 where
   pub bw : Within 4000 (p .w)
   pub bmx : Within 8000000 (p .mx)
   pub bnx : Within 8000000 (p .nx)

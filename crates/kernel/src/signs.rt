@@ -17,7 +17,7 @@ ghost use Rattle.sheet.specs.Signs.{order, turn, sideOfFigure, sideSign, orElse
 ghost use Rattle.sheet.specs.Expansions.{orderX, orderY, det, turnA, turnC};
 ghost use Rattle.sheet.specs.Answers.{answer, signedSays};
 ghost use Rattle.kernel.specs.Forms.{pairSide};
-ghost use Rattle.kernel.specs.Bounds.{Axis, Row, Slim, Pair};
+ghost use Rattle.kernel.specs.Bounds.{Coordinate, Row, NarrowSizes, Pair};
 
 // The first refusal of two.
 fn or_else(n: i64, m: i64) -> i64
@@ -33,7 +33,7 @@ fn or_else(n: i64, m: i64) -> i64
 
 // Of one coordinate, (m R + n)/w against (m2 R + n2)/w2.
 fn along(m: i64, n: i64, w: i64, m2: i64, n2: i64, w2: i64) -> i64
-    requires { ⌜ Axis m n w × Axis m2 n2 w2 ⌝ }
+    requires { ⌜ Coordinate m n w × Coordinate m2 n2 w2 ⌝ }
     ensures { λ r. ⌜ r ≡ first (sgn (m *ℤ w2 -ℤ m2 *ℤ w)) (sgn (n *ℤ w2 -ℤ n2 *ℤ w)) ⌝ }
 {
     let a = m * w2 - m2 * w;
@@ -88,7 +88,7 @@ fn det_of(w1: i64, x1: i64, y1: i64, w2: i64, x2: i64, y2: i64, w3: i64, x3: i64
 
 // The coefficient of R R.
 fn turn_a(p: Point, q: Point, s: Point) -> i64
-    requires { ⌜ Slim p × Slim q × Slim s ⌝ }
+    requires { ⌜ NarrowSizes p × NarrowSizes q × NarrowSizes s ⌝ }
     ensures { λ r. ⌜ r ≡ turnA p q s ⌝ }
 {
     det_of(p.w, p.mx, p.my, q.w, q.mx, q.my, s.w, s.mx, s.my)
@@ -96,14 +96,14 @@ fn turn_a(p: Point, q: Point, s: Point) -> i64
 
 // The coefficient of R, in two parts.
 fn turn_mn(p: Point, q: Point, s: Point) -> i64
-    requires { ⌜ Slim p × Slim q × Slim s ⌝ }
+    requires { ⌜ NarrowSizes p × NarrowSizes q × NarrowSizes s ⌝ }
     ensures { λ r. ⌜ r ≡ det (p .w) (p .mx) (p .ny) (q .w) (q .mx) (q .ny) (s .w) (s .mx) (s .ny) ⌝ }
 {
     det_of(p.w, p.mx, p.ny, q.w, q.mx, q.ny, s.w, s.mx, s.ny)
 }
 
 fn turn_nm(p: Point, q: Point, s: Point) -> i64
-    requires { ⌜ Slim p × Slim q × Slim s ⌝ }
+    requires { ⌜ NarrowSizes p × NarrowSizes q × NarrowSizes s ⌝ }
     ensures { λ r. ⌜ r ≡ det (p .w) (p .nx) (p .my) (q .w) (q .nx) (q .my) (s .w) (s .nx) (s .my) ⌝ }
 {
     det_of(p.w, p.nx, p.my, q.w, q.nx, q.my, s.w, s.nx, s.my)
@@ -111,14 +111,14 @@ fn turn_nm(p: Point, q: Point, s: Point) -> i64
 
 // The coefficient without R.
 fn turn_c(p: Point, q: Point, s: Point) -> i64
-    requires { ⌜ Slim p × Slim q × Slim s ⌝ }
+    requires { ⌜ NarrowSizes p × NarrowSizes q × NarrowSizes s ⌝ }
     ensures { λ r. ⌜ r ≡ turnC p q s ⌝ }
 {
     det_of(p.w, p.nx, p.ny, q.w, q.nx, q.ny, s.w, s.nx, s.ny)
 }
 
 fn turn_of(p: Point, q: Point, s: Point) -> i64
-    requires { ⌜ Slim p × Slim q × Slim s ⌝ }
+    requires { ⌜ NarrowSizes p × NarrowSizes q × NarrowSizes s ⌝ }
     ensures { λ r. ⌜ r ≡ turn p q s ⌝ }
 {
     let a = turn_a(p, q, s);
@@ -159,7 +159,7 @@ pub fn turn_points(p: Point, q: Point, s: Point) -> Signed
 
 // Of the line from p to q: dx Y - dy X - w k.
 fn pair_side(px: i64, py: i64, qx: i64, qy: i64, mx: i64, nx: i64, my: i64, ny: i64, w: i64) -> i64
-    requires { ⌜ Pair px py qx qy × Axis mx nx w × Axis my ny w ⌝ }
+    requires { ⌜ Pair px py qx qy × Coordinate mx nx w × Coordinate my ny w ⌝ }
     ensures { λ r. ⌜ r ≡ pairSide px py qx qy mx nx my ny w ⌝ }
 {
     let dx = qx - px;
@@ -172,7 +172,7 @@ fn pair_side(px: i64, py: i64, qx: i64, qy: i64, mx: i64, nx: i64, my: i64, ny: 
 
 // Of side n of the frame: how far the point is inside of it.
 fn frame_side(n: i64, mx: i64, nx: i64, my: i64, ny: i64, w: i64) -> i64
-    requires { ⌜ Axis mx nx w × Axis my ny w ⌝ }
+    requires { ⌜ Coordinate mx nx w × Coordinate my ny w ⌝ }
     ensures { λ r. ⌜ r ≡ sideOfFigure (side (sideOf n)) (record { mx = mx; nx = nx; my = my; ny = ny; w = w }) ⌝ }
 {
     if n == 1 {

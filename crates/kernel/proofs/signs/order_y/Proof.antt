@@ -1,29 +1,18 @@
 use mathlib.Core.Path.{_∙_}
-use lib.IntN.{_-ℤ_, _*ℤ_}
-use Rattle.whole.specs.Sign.{sgn}
-use Rattle.whole.specs.Poly.{first}
-use Rattle.whole.specs.Flat.{back}
 use Rattle.whole.specs.Tests.{out-ok}
-use borrow.Author.Needs.{needs}
+use Rattle.kernel.proofs.Coordinates.{y-of, coordinate-out, along-out}
 use Rattle.kernel.proofs.signs.order_y.Statement.{statement}
 use Rattle.kernel.proofs.signs.order_y.Tie as tie
 
 along-requires : tie.Need-along-requires
-along-requires c κs = search needs
+along-requires c κs =
+    let h = c .before .before .before .before .before .before .pre in
+    (coordinate-out (y-of (h .0)), coordinate-out (y-of (h .1)))
 
 returns : tie.Need-returns
 returns c =
-    let s = c .before .before .before .before .before .before .before in
-    let p = s .pre .0 in
-    let q = s .pre .1 in
-    let m = back (p .in-my) tt in
-    let n = back (p .in-ny) tt in
-    let w = back (p .in-w .at-most) tt in
-    let m2 = back (q .in-my) tt in
-    let n2 = back (q .in-ny) tt in
-    let w2 = back (q .in-w .at-most) tt in
-    out-ok (c .along .result) (c .along .ok) ∙ c .along .ensures
-    ∙ (λ i. first (sgn (m i *ℤ w2 i -ℤ m2 i *ℤ w i)) (sgn (n i *ℤ w2 i -ℤ n2 i *ℤ w i)))
+    let h = c .before .before .before .before .before .before .before .pre in
+    out-ok (c .along .result) (c .along .ok) ∙ c .along .ensures ∙ along-out (y-of (h .0)) (y-of (h .1))
 
 pub order-y-spec : {M : Type 1} → statement M
 order-y-spec = tie.close (tie.spec along-requires returns)

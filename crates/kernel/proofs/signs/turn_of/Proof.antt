@@ -10,7 +10,7 @@ use Rattle.whole.specs.Bound.{w-is}
 use Rattle.whole.specs.Tests.{out-ok}
 use Rattle.sheet.specs.Expansions.{turnC, turn-is}
 use Rattle.kernel.specs.Forms.{mixed-is}
-use Rattle.kernel.proofs.Det.{row, det-within}
+use Rattle.kernel.proofs.Det.{mn, nm, det-within}
 use borrow.Author.Needs.{needs}
 use Rattle.kernel.proofs.signs.turn_of.Statement.{statement}
 use Rattle.kernel.proofs.signs.turn_of.Tie as tie
@@ -19,10 +19,8 @@ use Rattle.kernel.proofs.signs.turn_of.Tie as tie
 parts : (c : tie.After-turn-nm) → All (1536000000000000000 ∷ 1536000000000000000 ∷ []) (c .before .turn-mn .result ∷ c .turn-nm .result ∷ [])
 parts c =
     let b = c .before .before .before .pre in
-    w-is (c .before .turn-mn .ensures)
-    (det-within (row (b .0 .bw) (b .0 .bmx) (b .0 .bny), row (b .1 .bw) (b .1 .bmx) (b .1 .bny), row (b .2 .bw) (b .2 .bmx) (b .2 .bny)))
-    also w-is (c .turn-nm .ensures)
-    (det-within (row (b .0 .bw) (b .0 .bnx) (b .0 .bmy), row (b .1 .bw) (b .1 .bnx) (b .1 .bmy), row (b .2 .bw) (b .2 .bnx) (b .2 .bmy)))
+    w-is (c .before .turn-mn .ensures) (det-within (mn (b .0), mn (b .1), mn (b .2)))
+    also w-is (c .turn-nm .ensures) (det-within (nm (b .0), nm (b .1), nm (b .2)))
     also none
 
 turn-a-requires : tie.Need-turn-a-requires

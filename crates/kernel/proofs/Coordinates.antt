@@ -1,0 +1,48 @@
+-- The coordinates of a point as they are handed on. To cite:
+--   x-of, y-of, coordinate-out   each of them, and out of locals
+--   along-out                    the order of two coordinates is that of the numbers
+--   point-out                    the point
+use mathlib.Core.Path.{_≡_}
+use lib.IntN.{ℤ, _-ℤ_, _*ℤ_}
+use Rattle.whole.specs.Sign.{sgn}
+use Rattle.whole.specs.Poly.{first}
+use Rattle.whole.specs.Ring.{var}
+use Rattle.whole.specs.Flat.{none, _also_, held, back}
+use Rattle.whole.specs.Bound.{fits64}
+use Rattle.whole.specs.Tests.{out}
+use Rattle.sheet.specs.declared.Point.{Point}
+use Rattle.sheet.specs.PointsLaws.{Sizes}
+use Rattle.kernel.specs.Bounds.{Coordinate}
+use Rattle.kernel.proofs.Handed as handed
+
+module _ {p : Point} (s : Sizes p) where
+  pub x-of : Coordinate (p .mx) (p .nx) (p .w)
+  x-of = record { bm = s .in-mx; bn = s .in-nx; bw = s .in-w .at-most }
+
+  pub y-of : Coordinate (p .my) (p .ny) (p .w)
+  y-of = record { bm = s .in-my; bn = s .in-ny; bw = s .in-w .at-most }
+
+  pub point-out : handed.pointOut p ≡ p
+  point-out =
+      handed.point p
+      (fits64 (s .in-mx) tt .sfits) (fits64 (s .in-nx) tt .sfits)
+      (fits64 (s .in-my) tt .sfits) (fits64 (s .in-ny) tt .sfits)
+      (fits64 (s .in-w .at-most) tt .sfits)
+
+pub coordinate-out : {m n w : ℤ} → Coordinate m n w → Coordinate (out m) (out n) (out w)
+coordinate-out c = record {
+  bm = held (c .bm also none) (var 0) tt;
+  bn = held (c .bn also none) (var 0) tt;
+  bw = held (c .bw also none) (var 0) tt;
+}
+
+pub along-out :
+    {m n w m2 n2 w2 : ℤ} → Coordinate m n w → Coordinate m2 n2 w2
+    → first (sgn (out m *ℤ out w2 -ℤ out m2 *ℤ out w)) (sgn (out n *ℤ out w2 -ℤ out n2 *ℤ out w))
+    ≡ first (sgn (m *ℤ w2 -ℤ m2 *ℤ w)) (sgn (n *ℤ w2 -ℤ n2 *ℤ w))
+along-out c d =
+    let w = back (c .bw) tt in
+    let w2 = back (d .bw) tt in
+    λ i. first
+    (sgn (back (c .bm) tt i *ℤ w2 i -ℤ back (d .bm) tt i *ℤ w i))
+    (sgn (back (c .bn) tt i *ℤ w2 i -ℤ back (d .bn) tt i *ℤ w i))
