@@ -4,17 +4,21 @@
 --   is-flat, is-steep       which form the far end has, by the code's test, and that its w is above 0
 --   ahead-out, far-out      p and d as they are handed on
 --   outward, on-end, off-end   the way out over a side, handed on; the far end is what the side shares, if it is on it
+--   mE, lengths, full-flag  how far d goes that way, by locals ox, oy, dx, dy, and the code's test of that against w
 --   place, pair, way, ahead    a given point as it is handed on; p and q of an object as locals 0 to 3, and the direction from p to q
 --   swapped, reversed       p and q changed over, and the direction then
-use mathlib.Core.Path.{_≡_, sym, _∙_, ap}
+use mathlib.Core.Path.{_≡_, sym, _∙_, ap, ap₂}
 use mathlib.Core.Bool.{Bool, true, false, cond}
 use mathlib.Core.List.{[], _∷_}
-use lib.IntN.{ℤ, pos, negℤ, _-ℤ_}
+use lib.Dec.{eqb}
+use lib.IntN.{ℤ, pos, negℤ, _+ℤ_, _-ℤ_, _*ℤ_}
 use lib.Signed.{_<ℤ_}
+use mir.Syntax.{w64}
+use mir.Val.{SFits, ofZ}
 use Rattle.whole.specs.Laws.{eq-of-sub}
-use Rattle.whole.specs.Ring.{Expr, var, _⊖_, _⊗_, ⊝_, ring}
-use Rattle.whole.specs.Flat.{All, none, _also_, mach, gives, held, back}
-use Rattle.whole.specs.Tests.{out}
+use Rattle.whole.specs.Ring.{Expr, var, _⊕_, _⊖_, _⊗_, ⊝_, ring}
+use Rattle.whole.specs.Flat.{All, none, _also_, mach, raw, need, gives, raw-is, held, back}
+use Rattle.whole.specs.Tests.{eqZ, out, eq-flag}
 use Rattle.sheet.specs.declared.Point.{Point}
 use Rattle.sheet.specs.Figure.{Vec, _⇀_}
 use Rattle.sheet.specs.Points.{size}
@@ -64,6 +68,18 @@ module _ {px py dx dy : ℤ} (h : Ahead px py dx dy) where
 
 pub outward : {ox oy : ℤ} → Out ox oy → Out (out ox) (out oy)
 outward o = record { box = held (o .box also none) (var 0) tt; boy = held (o .boy also none) (var 0) tt }
+
+-- ox dx + oy dy
+abbrev pub mE : Expr
+mE = var 0 ⊗ var 2 ⊕ var 1 ⊗ var 3
+
+module _ {ox oy dx dy k : ℤ} (h : Out ox oy × Direction dx dy k) where
+  pub lengths : All (1 ∷ 1 ∷ 4000 ∷ 4000 ∷ []) (ox ∷ oy ∷ dx ∷ dy ∷ [])
+  lengths = h .0 .box also h .0 .boy also h .1 .bdx also h .1 .bdy also none
+
+  pub full-flag : {w z : ℤ} → SFits w64 w → w ≡ z
+      → eqb (ofZ w64 (raw (ox ∷ oy ∷ dx ∷ dy ∷ []) mE)) (ofZ w64 w) ≡ eqZ (ox *ℤ dx +ℤ oy *ℤ dy) z
+  full-flag f e = eq-flag (need lengths mE tt) f ∙ ap₂ eqZ (raw-is lengths mE tt) e
 
 -- the code's test, and what it says
 module _ {ox oy px py dx dy : ℤ} {t : Bool} (o : Out ox oy) (h : Ahead px py dx dy)
