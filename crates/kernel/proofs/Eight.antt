@@ -1,20 +1,20 @@
 -- The code of two pieces: its eight numbers px, py, qx, qy, rx, ry, sx, sy as locals 0 to 7, what it computes of them, and how they are
 -- handed on. To cite:
 --   dxE, dyE, fxE, fyE, exE, eyE, acrossE   the differences and the cross product, as the code writes them
---   near-out                what an inner function asks, of the numbers as they come out of locals
+--   near-out, apart-out     what an inner function asks, of the numbers as they come out of locals
 --   piece-out               the piece of numbers out of locals
 --   say                     what an accepted crossing says
-use mathlib.Core.Path.{_≡_}
+use mathlib.Core.Path.{_≡_, sym, _∙_}
 use mathlib.Core.List.{List, _∷_}
-use lib.IntN.{ℤ, pos}
+use lib.IntN.{ℤ, pos, _-ℤ_, _*ℤ_}
 use mir.Syntax.{w64}
 use mir.Val.{SFits}
 use Rattle.whole.specs.Ring.{Expr, var, _⊖_, _⊗_}
-use Rattle.whole.specs.Flat.{none, _also_, held}
+use Rattle.whole.specs.Flat.{none, _also_, gives, held}
 use Rattle.whole.specs.Tests.{out, out-is}
 use Rattle.sheet.specs.Crossing.{Meeting}
 use Rattle.sheet.specs.Answers.{meetingNumbers}
-use Rattle.kernel.specs.Bounds.{Near}
+use Rattle.kernel.specs.Bounds.{Near, Apart}
 use Rattle.kernel.specs.Pieces.{piece}
 
 abbrev pub dxE : Expr
@@ -50,6 +50,17 @@ module _ {px py qx qy rx ry sx sy : ℤ} where
             held b (var 0) tt also held b (var 1) tt also held b (var 2) tt also held b (var 3) tt
             also held b (var 4) tt also held b (var 5) tt also held b (var 6) tt also held b (var 7) tt also none;
       }
+
+  pub apart-out : Apart px py qx qy rx ry sx sy → Apart (out px) (out py) (out qx) (out qy) (out rx) (out ry) (out sx) (out sy)
+  apart-out h =
+      let b = h .near .near in
+      let across : ((out qx -ℤ out px) *ℤ (out sy -ℤ out ry) -ℤ (out qy -ℤ out py) *ℤ (out sx -ℤ out rx))
+          ≡ ((qx -ℤ px) *ℤ (sy -ℤ ry) -ℤ (qy -ℤ py) *ℤ (sx -ℤ rx)) =
+      λ i.
+      (gives b (var 2) tt i -ℤ gives b (var 0) tt i) *ℤ (gives b (var 7) tt i -ℤ gives b (var 5) tt i)
+      -ℤ (gives b (var 3) tt i -ℤ gives b (var 1) tt i) *ℤ (gives b (var 6) tt i -ℤ gives b (var 4) tt i)
+      in
+      record { near = near-out (h .near); apart = λ e. h .apart (sym across ∙ e) }
 
 pub piece-out :
     {kind px py qx qy : ℤ} → SFits w64 kind → SFits w64 px → SFits w64 py → SFits w64 qx → SFits w64 qy

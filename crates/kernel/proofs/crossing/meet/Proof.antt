@@ -1,14 +1,14 @@
-use mathlib.Core.Path.{_≡_, sym, _∙_, ap}
+use mathlib.Core.Path.{_≡_, sym, _∙_, ap, subst}
 use Rattle.whole.specs.Flat.{none, _also_}
 use Rattle.whole.specs.Tests.{out, out-is, eq-left}
 use Rattle.sheet.specs.declared.Object.{Object}
 use Rattle.sheet.specs.Figure.{sideOf, figure}
+use Rattle.sheet.specs.Refusal.{Accepted}
 use Rattle.sheet.specs.Crossing.{pieces, withSide}
 use Rattle.kernel.specs.Kinds.{lit-taken, accepted-pair}
 use Rattle.kernel.specs.Pieces.{object, side-first, side-second, crossing-pieces}
 use Rattle.kernel.proofs.Handed as handed
 use Rattle.kernel.proofs.Eight.{say, near-out, piece-out}
-use borrow.Author.Needs.{needs}
 use Rattle.kernel.proofs.crossing.meet.Statement.{statement}
 use Rattle.kernel.proofs.crossing.meet.Tie as tie
 
@@ -26,7 +26,7 @@ b-out : (s : tie.Start) → object (out (s .args .kb)) (out (s .args .rx)) (out 
 b-out s = handed.object (b s) (s .fits .kb .sfits) (s .fits .rx .sfits) (s .fits .ry .sfits) (s .fits .sx .sfits) (s .fits .sy .sfits)
 
 with-side-requires : tie.Need-with-side-requires
-with-side-requires c κs = search needs
+with-side-requires c κs = let s = c .before in subst Accepted (sym (b-out s)) (s .pre .1)
 
 returns : tie.Need-returns
 returns c =
@@ -35,7 +35,7 @@ returns c =
     ∙ sym (ap say (side-first (a s) (b s) (lit-taken 4 tt (s .fits .ka) (c .before .if1 .taken))))
 
 with-side-requires-2 : tie.Need-with-side-requires-2
-with-side-requires-2 c κs = search needs
+with-side-requires-2 c κs = let s = c .before .before in subst Accepted (sym (a-out s)) (s .pre .0)
 
 returns-2 : tie.Need-returns-2
 returns-2 c =

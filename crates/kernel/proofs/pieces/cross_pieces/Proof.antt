@@ -5,7 +5,6 @@ use Rattle.whole.specs.Tests.{out}
 use Rattle.sheet.specs.Crossing.{Piece, cross, skew, together}
 use Rattle.kernel.specs.Pieces.{piece, pieces-skew, pieces-apart, pieces-together}
 use Rattle.kernel.proofs.Eight.{dxE, dyE, fxE, fyE, exE, eyE, acrossE, say, near-out, piece-out}
-use borrow.Author.Needs.{needs}
 use Rattle.kernel.proofs.pieces.cross_pieces.Statement.{statement}
 use Rattle.kernel.proofs.pieces.cross_pieces.Tie as tie
 
@@ -83,7 +82,7 @@ returns-2 c =
     ap say (pieces-apart (A s) (B s) (eq-gives b acrossE (lit 0) tt tt (c .before .if1 .left)) (ne-gives b offE (lit 0) tt tt (c .if2 .taken)))
 
 together-requires : tie.Need-together-requires
-together-requires c κs = search needs
+together-requires c κs = near-out (c .before .before .pre)
 
 returns-3 : tie.Need-returns-3
 returns-3 c =

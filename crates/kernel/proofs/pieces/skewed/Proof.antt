@@ -12,7 +12,7 @@ use Rattle.whole.specs.Tests.{out, out-is, out-ok}
 use Rattle.sheet.specs.Points.{size, divided}
 use Rattle.sheet.specs.Crossing.{Piece, none, point, meetingPoint, reaches}
 use Rattle.kernel.specs.Pieces.{at, piece, reachesBy, reaches-is}
-use Rattle.kernel.proofs.Eight.{dxE, dyE, fxE, fyE, exE, eyE, acrossE, say, piece-out}
+use Rattle.kernel.proofs.Eight.{dxE, dyE, fxE, fyE, exE, eyE, acrossE, say, apart-out, piece-out}
 use borrow.Author.Needs.{needs}
 use Rattle.kernel.proofs.pieces.skewed.Statement.{statement}
 use Rattle.kernel.proofs.pieces.skewed.Tie as tie
@@ -157,7 +157,7 @@ returns-2 c =
     sym (ap₂ (shown s) (first-yes (d .before .before)) (sym (second-is d) ∙ not-true (d .reaches2 .result) (c .if2 .taken)))
 
 meeting-point-requires : tie.Need-meeting-point-requires
-meeting-point-requires c κs = search needs
+meeting-point-requires c κs = apart-out (start (c .before .before .before .before) .pre .0)
 
 returns-3 : tie.Need-returns-3
 returns-3 c =

@@ -10,10 +10,10 @@ use Rattle.kernel.proofs.signs.order_of.Statement.{statement}
 use Rattle.kernel.proofs.signs.order_of.Tie as tie
 
 order-x-requires : tie.Need-order-x-requires
-order-x-requires c κs = search needs
+order-x-requires c κs = c .pre
 
 order-y-requires : tie.Need-order-y-requires
-order-y-requires c κs = search needs
+order-y-requires c κs = c .before .pre
 
 lead-requires : tie.Need-lead-requires
 lead-requires c κs = search needs

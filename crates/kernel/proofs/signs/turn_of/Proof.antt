@@ -24,19 +24,19 @@ parts c =
     also none
 
 turn-a-requires : tie.Need-turn-a-requires
-turn-a-requires c κs = search needs
+turn-a-requires c κs = c .pre
 
 turn-mn-requires : tie.Need-turn-mn-requires
-turn-mn-requires c κs = search needs
+turn-mn-requires c κs = c .before .pre
 
 turn-nm-requires : tie.Need-turn-nm-requires
-turn-nm-requires c κs = search needs
+turn-nm-requires c κs = c .before .before .pre
 
 add-b : tie.Need-add-b
 add-b c = need (parts c) (var 0 ⊕ var 1) tt
 
 turn-c-requires : tie.Need-turn-c-requires
-turn-c-requires c κs = search needs
+turn-c-requires c κs = c .before .before .before .pre
 
 lead-requires : tie.Need-lead-requires
 lead-requires c κs = search needs

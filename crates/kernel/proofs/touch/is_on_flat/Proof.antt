@@ -4,7 +4,7 @@ use mathlib.Core.List.{[], _∷_}
 use lib.IntN.{ℤ, pos, _+ℤ_, _*ℤ_}
 use Rattle.whole.specs.Sign.{sgn}
 use Rattle.whole.specs.Ring.{Expr, var, lit, _⊕_, _⊗_, ring}
-use Rattle.whole.specs.Flat.{All, none, _also_, need, raw-is}
+use Rattle.whole.specs.Flat.{All, none, _also_, need, raw-is, held}
 use Rattle.whole.specs.Bound.{w-is, w-sgn}
 use Rattle.whole.specs.Tests.{eqZ, out-is, fits-ok, lit-flag}
 use Rattle.sheet.specs.Points.{size}
@@ -26,7 +26,7 @@ numbers : (a b t k : ℤ) → b *ℤ (t *ℤ k) ≡ a *ℤ pos 0 +ℤ b *ℤ (t 
 numbers a b t k = ring (a ∷ b ∷ t ∷ k ∷ []) (var 1 ⊗ (var 2 ⊗ var 3)) (var 0 ⊗ lit 0 ⊕ var 1 ⊗ (var 2 ⊗ var 3)) tt
 
 abs-requires : tie.Need-abs-requires
-abs-requires c κs = search needs
+abs-requires c κs = held (lengths (c .pre)) (var 2) tt
 
 sign-requires : tie.Need-sign-requires
 sign-requires c κs = search needs
