@@ -55,7 +55,7 @@ module _ {px py qx qy rx ry sx sy : ℤ} where
   apart-out h =
       let b = h .near .near in
       let across : ((out qx -ℤ out px) *ℤ (out sy -ℤ out ry) -ℤ (out qy -ℤ out py) *ℤ (out sx -ℤ out rx))
-          ≡ ((qx -ℤ px) *ℤ (sy -ℤ ry) -ℤ (qy -ℤ py) *ℤ (sx -ℤ rx)) =
+      ≡ ((qx -ℤ px) *ℤ (sy -ℤ ry) -ℤ (qy -ℤ py) *ℤ (sx -ℤ rx)) =
       λ i.
       (gives b (var 2) tt i -ℤ gives b (var 0) tt i) *ℤ (gives b (var 7) tt i -ℤ gives b (var 5) tt i)
       -ℤ (gives b (var 3) tt i -ℤ gives b (var 1) tt i) *ℤ (gives b (var 6) tt i -ℤ gives b (var 4) tt i)

@@ -205,7 +205,7 @@ module _ {d : Vec} where
   hi-unless true a h = hi-till h
   hi-unless false a h = hi-free
 
--- both arrows the same way: the second one's start is a start
+-- two pieces on one line; where both arrows point the same way, the second one's start is a start
 module _ (ka px py qx qy kb rx ry sx sy : ℤ) (h : Near px py qx qy rx ry sx sy) where
   abbrev p : Vec
   p = at px py
@@ -241,25 +241,34 @@ module _ (ka px py qx qy kb rx ry sx sy : ℤ) (h : Near px py qx qy rx ry sx sy
   abbrev pub stops : ℤ
   stops = cond (eqZ ka (pos 1)) (dot d q) far
 
-  pub together-alike : alike (pieceOf ka p q) (pieceOf kb r s) ≡ true
-      → overlapBy starts stops p (cond (eqZ kb (pos 3)) (negℤ far) (dot d r)) (cond (eqZ kb (pos 1)) (dot d s) far) r
-      ≡ together (pieceOf ka p q) (pieceOf kb r s)
-  together-alike e =
-      overlap-by (lo-if (eqZ ka (pos 3)) p in-p) (lo-if (eqZ kb (pos 3)) r in-r)
-      (hi-unless (eqZ ka (pos 1)) q in-q) (hi-unless (eqZ kb (pos 1)) s in-s)
-      ∙ sym (ap (λ (t : Bool). between d
-      (later d (pieceOf ka p q .start) (cond t (pieceOf kb r s .start) (pieceOf kb r s .stop)))
-      (sooner d (pieceOf ka p q .stop) (cond t (pieceOf kb r s .stop) (pieceOf kb r s .start)))) e)
+  abbrev A : Piece
+  A = pieceOf ka p q
 
-  pub together-opposed : alike (pieceOf ka p q) (pieceOf kb r s) ≡ false
-      → overlapBy starts stops p (cond (eqZ kb (pos 1)) (dot d s) (negℤ far)) (cond (eqZ kb (pos 3)) far (dot d r)) s
-      ≡ together (pieceOf ka p q) (pieceOf kb r s)
-  together-opposed e =
-      overlap-by (lo-if (eqZ ka (pos 3)) p in-p) (lo-unless (eqZ kb (pos 1)) s in-s)
-      (hi-unless (eqZ ka (pos 1)) q in-q) (hi-if (eqZ kb (pos 3)) r in-r)
-      ∙ sym (ap (λ (t : Bool). between d
-      (later d (pieceOf ka p q .start) (cond t (pieceOf kb r s .start) (pieceOf kb r s .stop)))
-      (sooner d (pieceOf ka p q .stop) (cond t (pieceOf kb r s .stop) (pieceOf kb r s .start)))) e)
+  abbrev B : Piece
+  B = pieceOf kb r s
+
+  -- by the second one's limits in that direction, whichever way its own arrow points
+  by-limits : {t : Bool} {n k : ℤ} {a : Vec} → alike A B ≡ t → Lo d (cond t (B .start) (B .stop)) n a → Hi d (cond t (B .stop) (B .start)) k
+      → overlapBy starts stops p n k a ≡ together A B
+  by-limits e x y =
+      overlap-by (lo-if (eqZ ka (pos 3)) p in-p) x (hi-unless (eqZ ka (pos 1)) q in-q) y
+      ∙ sym (ap (λ (t : Bool). between d (later d (A .start) (cond t (B .start) (B .stop))) (sooner d (A .stop) (cond t (B .stop) (B .start)))) e)
+
+  -- the limits as the code finds them
+  module _ {lo hi low high : ℤ} {a b : Vec} (el : lo ≡ starts) (eh : hi ≡ stops) (ep : a ≡ p) where
+    pub together-alike :
+        low ≡ cond (eqZ kb (pos 3)) (negℤ far) (dot d r) → high ≡ cond (eqZ kb (pos 1)) (dot d s) far → b ≡ r → alike A B ≡ true
+        → overlapBy lo hi a low high b ≡ together A B
+    together-alike x y z e =
+        (λ i. overlapBy (el i) (eh i) (ep i) (x i) (y i) (z i))
+        ∙ by-limits e (lo-if (eqZ kb (pos 3)) r in-r) (hi-unless (eqZ kb (pos 1)) s in-s)
+
+    pub together-opposed :
+        low ≡ cond (eqZ kb (pos 1)) (dot d s) (negℤ far) → high ≡ cond (eqZ kb (pos 3)) far (dot d r) → b ≡ s → alike A B ≡ false
+        → overlapBy lo hi a low high b ≡ together A B
+    together-opposed x y z e =
+        (λ i. overlapBy (el i) (eh i) (ep i) (x i) (y i) (z i))
+        ∙ by-limits e (lo-unless (eqZ kb (pos 1)) s in-s) (hi-if (eqZ kb (pos 3)) r in-r)
 
 -- ---- with sides, by the way out of the square
 

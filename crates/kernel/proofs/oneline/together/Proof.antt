@@ -1,13 +1,17 @@
-use mathlib.Core.Path.{_≡_, _∙_, ap}
+use mathlib.Core.Path.{_≡_, refl, _∙_, ap}
 use mathlib.Core.Bool.{cond}
-use Prim.Native.Nat.{ℕ}
-use lib.IntN.{pos, negℤ}
+use Prim.Native.Nat.{ℕ, _<_, _^_}
+use lib.Dec.{T, eqb, ltb}
+use lib.IntN.{ℤ, pos, negℤ}
+use lib.Signed.{mag}
+use mir.Syntax.{w64}
+use mir.Val.{SFits, ofZ, hbits}
 use Rattle.whole.specs.Ring.{Expr, var, lit, _⊕_, _⊗_}
 use Rattle.whole.specs.Flat.{need, gives, lt-gives}
 use Rattle.whole.specs.Tests.{eqZ, out, out-is, out-ok, lit-flag}
 use Rattle.sheet.specs.Crossing.{dot}
 use Rattle.sheet.specs.Figure.{Vec, _⇀_}
-use Rattle.kernel.specs.Pieces.{at, far, overlapBy, together-alike, together-opposed}
+use Rattle.kernel.specs.Pieces.{at, far, together-alike, together-opposed}
 use Rattle.kernel.proofs.Eight.{dxE, dyE, fxE, fyE, say}
 use borrow.Author.Needs.{needs}
 use Rattle.kernel.proofs.oneline.together.Statement.{statement}
@@ -26,22 +30,21 @@ p s = at (s .args .px) (s .args .py)
 abbrev q : tie.Start → Vec
 q s = at (s .args .qx) (s .args .qy)
 
+-- a limit that the kind picks
+limit : (n : ℕ) → T (ltb n (2 ^ 63)) → {kind r x y u v : ℤ} → SFits w64 kind → mag r < 2 ^ hbits w64
+    → r ≡ cond (eqb (ofZ w64 kind) n) x y → x ≡ u → y ≡ v → out r ≡ cond (eqZ kind (pos n)) u v
+limit n t {r = r} f h e a b = out-ok r h ∙ e ∙ (λ i. cond (lit-flag n t f i) (a i) (b i))
+
 -- where the first one starts and stops
 lo : (c : tie.After-pick) →
     let s = c .before in
     out (c .pick .result) ≡ cond (eqZ (s .args .ka) (pos 3)) (negℤ far) (dot (p s ⇀ q s) (p s))
-lo c =
-    let s = c .before in
-    out-ok (c .pick .result) (c .pick .ok) ∙ c .pick .ensures
-    ∙ (λ i. cond (lit-flag 3 tt (s .fits .ka) i) (negℤ far) (gives (s .pre .near) (atE 0 1) tt i))
+lo c = let s = c .before in limit 3 tt (s .fits .ka) (c .pick .ok) (c .pick .ensures) refl (gives (s .pre .near) (atE 0 1) tt)
 
 hi : (c : tie.After-pick2) →
     let s = c .before .before in
     out (c .pick2 .result) ≡ cond (eqZ (s .args .ka) (pos 1)) (dot (p s ⇀ q s) (q s)) far
-hi c =
-    let s = c .before .before in
-    out-ok (c .pick2 .result) (c .pick2 .ok) ∙ c .pick2 .ensures
-    ∙ (λ i. cond (lit-flag 1 tt (s .fits .ka) i) (gives (s .pre .near) (atE 2 3) tt i) far)
+hi c = let s = c .before .before in limit 1 tt (s .fits .ka) (c .pick2 .ok) (c .pick2 .ensures) (gives (s .pre .near) (atE 2 3) tt) refl
 
 sub-dx : tie.Need-sub-dx
 sub-dx c = need (c .pre .near) dxE tt
@@ -126,21 +129,16 @@ returns c =
     let f = c .before .before .before in
     let s = f .before .before .before in
     let b = s .pre .near in
-    let low =
-    out-ok (c .before .before .pick3 .result) (c .before .before .pick3 .ok) ∙ c .before .before .pick3 .ensures
-    ∙ (λ i. cond (lit-flag 3 tt (s .fits .kb) i) (negℤ far) (gives b (atE 4 5) tt i))
-    in
-    let high =
-    out-ok (c .before .pick4 .result) (c .before .pick4 .ok) ∙ c .before .pick4 .ensures
-    ∙ (λ i. cond (lit-flag 1 tt (s .fits .kb) i) (gives b (atE 6 7) tt i) far)
-    in
+    let one = c .before .before .pick3 in
+    let two = c .before .pick4 in
     c .overlap .ensures
-    ∙ (λ i. say (overlapBy
-    (lo (f .before .before) i) (hi (f .before) i) (at (out-is (s .fits .px) i) (out-is (s .fits .py) i))
-    (low i) (high i) (at (out-is (s .fits .rx) i) (out-is (s .fits .ry) i))))
     ∙ ap say (together-alike
     (s .args .ka) (s .args .px) (s .args .py) (s .args .qx) (s .args .qy)
     (s .args .kb) (s .args .rx) (s .args .ry) (s .args .sx) (s .args .sy) (s .pre)
+    (lo (f .before .before)) (hi (f .before)) (λ i. at (out-is (s .fits .px) i) (out-is (s .fits .py) i))
+    (limit 3 tt (s .fits .kb) (one .ok) (one .ensures) refl (gives b (atE 4 5) tt))
+    (limit 1 tt (s .fits .kb) (two .ok) (two .ensures) (gives b (atE 6 7) tt) refl)
+    (λ i. at (out-is (s .fits .rx) i) (out-is (s .fits .ry) i))
     (lt-gives b (lit 0) alikeE tt tt (f .if1 .taken)))
 
 sub-pick-3 : tie.Need-sub-pick-3
@@ -160,21 +158,16 @@ returns-2 c =
     let f = c .before .before .before in
     let s = f .before .before .before in
     let b = s .pre .near in
-    let low =
-    out-ok (c .before .before .pick5 .result) (c .before .before .pick5 .ok) ∙ c .before .before .pick5 .ensures
-    ∙ (λ i. cond (lit-flag 1 tt (s .fits .kb) i) (gives b (atE 6 7) tt i) (negℤ far))
-    in
-    let high =
-    out-ok (c .before .pick6 .result) (c .before .pick6 .ok) ∙ c .before .pick6 .ensures
-    ∙ (λ i. cond (lit-flag 3 tt (s .fits .kb) i) far (gives b (atE 4 5) tt i))
-    in
+    let one = c .before .before .pick5 in
+    let two = c .before .pick6 in
     c .overlap2 .ensures
-    ∙ (λ i. say (overlapBy
-    (lo (f .before .before) i) (hi (f .before) i) (at (out-is (s .fits .px) i) (out-is (s .fits .py) i))
-    (low i) (high i) (at (out-is (s .fits .sx) i) (out-is (s .fits .sy) i))))
     ∙ ap say (together-opposed
     (s .args .ka) (s .args .px) (s .args .py) (s .args .qx) (s .args .qy)
     (s .args .kb) (s .args .rx) (s .args .ry) (s .args .sx) (s .args .sy) (s .pre)
+    (lo (f .before .before)) (hi (f .before)) (λ i. at (out-is (s .fits .px) i) (out-is (s .fits .py) i))
+    (limit 1 tt (s .fits .kb) (one .ok) (one .ensures) (gives b (atE 6 7) tt) refl)
+    (limit 3 tt (s .fits .kb) (two .ok) (two .ensures) refl (gives b (atE 4 5) tt))
+    (λ i. at (out-is (s .fits .sx) i) (out-is (s .fits .sy) i))
     (lt-gives b (lit 0) alikeE tt tt (f .if1 .left)))
 
 pub together-spec : {M : Type 1} → statement M
