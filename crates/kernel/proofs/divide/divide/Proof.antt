@@ -4,68 +4,68 @@ use Prim.Native.Nat.{ℕ, _<_, _≤_}
 use lib.IntN.{ℤ, pos}
 use lib.Signed.{quotZ}
 use Rattle.whole.specs.Divisor.{gcdOf}
-use Rattle.whole.specs.Tests.{out-is, out-ok}
+use Rattle.whole.specs.Ring.{var}
+use Rattle.whole.specs.Flat.{none, _also_, held, back}
+use Rattle.whole.specs.Bound.{Within}
+use Rattle.whole.specs.Tests.{out, out-is, out-ok}
 use Rattle.sheet.specs.Points.{divided}
+use Rattle.kernel.specs.Bounds.{Part}
 use Rattle.kernel.specs.Forms.{divisor-bounds}
 use borrow.Author.Needs.{needs}
 use Rattle.kernel.proofs.divide.divide.Statement.{statement}
 use Rattle.kernel.proofs.divide.divide.Tie as tie
 
--- the divisor is that of the five numbers, above 0 and small
-found : (c : tie.After-divisor) → c .divisor .result ≡ gcdOf (c .before .args .mx ∷ c .before .args .nx ∷ c .before .args .my ∷ c .before .args .ny ∷ c .before .args .w ∷ [])
+abbrev common : tie.Start → ℕ
+common s = gcdOf (s .args .mx ∷ s .args .nx ∷ s .args .my ∷ s .args .ny ∷ s .args .w ∷ [])
+
+found : (c : tie.After-divisor) → c .divisor .result ≡ common (c .before)
 found c =
     let s = c .before in
     simp (c .divisor .ensures, out-is, s .fits .mx, s .fits .nx, s .fits .my, s .fits .ny, s .fits .w)
 
-bounds : (c : tie.After-divisor) → (0 < c .divisor .result) × (c .divisor .result ≤ 64000000000)
-bounds c = subst (λ (g : ℕ). (0 < g) × (g ≤ 64000000000)) (sym (found c)) (divisor-bounds (c .before .pre))
+-- of each of the five numbers: what `part` asks, and what it gives
+part-asks : (c : tie.After-divisor) {n : ℤ} → Within 64000000000 n → Part (out n) (c .divisor .result)
+part-asks c h =
+    let b = subst (λ (g : ℕ). (0 < g) × (g ≤ 64000000000)) (sym (found c)) (divisor-bounds (c .before .pre)) in
+    record { bn = held (h also none) (var 0) tt; above = b .0; small = b .1 }
 
--- a number over it
-over :
-    (c : tie.After-divisor) {y z : ℤ} → y ≡ z →
-    quotZ y (pos (c .divisor .result))
-    ≡ quotZ z (pos (gcdOf (c .before .args .mx ∷ c .before .args .nx ∷ c .before .args .my ∷ c .before .args .ny ∷ c .before .args .w ∷ [])))
-over c e = ap₂ (λ (z : ℤ) (g : ℕ). quotZ z (pos g)) e (found c)
+part-gives : (c : tie.After-divisor) {n : ℤ} → Within 64000000000 n → quotZ (out n) (pos (c .divisor .result)) ≡ quotZ n (pos (common (c .before)))
+part-gives c h = ap₂ (λ (z : ℤ) (g : ℕ). quotZ z (pos g)) (back h tt) (found c)
 
 divisor-requires : tie.Need-divisor-requires
 divisor-requires c κs = search needs
 
 part-requires : tie.Need-part-requires
-part-requires c κs =
-    let s = c .before in
-    simp (out-is, s .fits .mx) (record { bn = s .pre .bmx; above = bounds (c) .0; small = bounds (c) .1 })
+part-requires c κs = part-asks c (c .before .pre .bmx)
 
 part-requires-2 : tie.Need-part-requires-2
-part-requires-2 c κs =
-    let s = c .before .before in
-    simp (out-is, s .fits .nx) (record { bn = s .pre .bnx; above = bounds (c .before) .0; small = bounds (c .before) .1 })
+part-requires-2 c κs = let d = c .before in part-asks d (d .before .pre .bnx)
 
 part-requires-3 : tie.Need-part-requires-3
-part-requires-3 c κs =
-    let s = c .before .before .before in
-    simp (out-is, s .fits .my) (record { bn = s .pre .bmy; above = bounds (c .before .before) .0; small = bounds (c .before .before) .1 })
+part-requires-3 c κs = let d = c .before .before in part-asks d (d .before .pre .bmy)
 
 part-requires-4 : tie.Need-part-requires-4
-part-requires-4 c κs =
-    let s = c .before .before .before .before in
-    simp (out-is, s .fits .ny) (record { bn = s .pre .bny; above = bounds (c .before .before .before) .0; small = bounds (c .before .before .before) .1 })
+part-requires-4 c κs = let d = c .before .before .before in part-asks d (d .before .pre .bny)
 
 part-requires-5 : tie.Need-part-requires-5
-part-requires-5 c κs =
-    let s = c .before .before .before .before .before in
-    simp (out-is, s .fits .w) (record { bn = s .pre .bw; above = bounds (c .before .before .before .before) .0; small = bounds (c .before .before .before .before) .1 })
+part-requires-5 c κs = let d = c .before .before .before .before in part-asks d (d .before .pre .bw)
 
 returns : tie.Need-returns
 unfolding divided
 returns c =
+    let mx = c .before .before .before .before .part in
+    let nx = c .before .before .before .part2 in
+    let my = c .before .before .part3 in
+    let ny = c .before .part4 in
+    let w = c .part5 in
     let d = c .before .before .before .before .before in
-    let s = d .before in
+    let h = d .before .pre in
     λ i. record {
-      mx = (out-ok (c .before .before .before .before .part .result) (c .before .before .before .before .part .ok) ∙ c .before .before .before .before .part .ensures ∙ over d (out-is (s .fits .mx))) i;
-      nx = (out-ok (c .before .before .before .part2 .result) (c .before .before .before .part2 .ok) ∙ c .before .before .before .part2 .ensures ∙ over d (out-is (s .fits .nx))) i;
-      my = (out-ok (c .before .before .part3 .result) (c .before .before .part3 .ok) ∙ c .before .before .part3 .ensures ∙ over d (out-is (s .fits .my))) i;
-      ny = (out-ok (c .before .part4 .result) (c .before .part4 .ok) ∙ c .before .part4 .ensures ∙ over d (out-is (s .fits .ny))) i;
-      w = (out-ok (c .part5 .result) (c .part5 .ok) ∙ c .part5 .ensures ∙ over d (out-is (s .fits .w))) i;
+      mx = (out-ok (mx .result) (mx .ok) ∙ mx .ensures ∙ part-gives d (h .bmx)) i;
+      nx = (out-ok (nx .result) (nx .ok) ∙ nx .ensures ∙ part-gives d (h .bnx)) i;
+      my = (out-ok (my .result) (my .ok) ∙ my .ensures ∙ part-gives d (h .bmy)) i;
+      ny = (out-ok (ny .result) (ny .ok) ∙ ny .ensures ∙ part-gives d (h .bny)) i;
+      w = (out-ok (w .result) (w .ok) ∙ w .ensures ∙ part-gives d (h .bw)) i;
     }
 
 pub divide-spec : {M : Type 1} → statement M
