@@ -2,14 +2,19 @@
 --   x-of, y-of, coordinate-out   each of them, and out of locals
 --   along-out                    the order of two coordinates is that of the numbers
 --   point-out                    the point
-use mathlib.Core.Path.{_≡_}
+--   lead-is                      the sign that `lead` gives, by numbers equal to those that it was given
+use mathlib.Core.Path.{_≡_, _∙_, ap₂}
+use Prim.Native.Nat.{_<_, _^_}
 use lib.IntN.{ℤ, _-ℤ_, _*ℤ_}
+use lib.Signed.{mag}
+use mir.Syntax.{w64}
+use mir.Val.{hbits}
 use Rattle.whole.specs.Sign.{sgn}
 use Rattle.whole.specs.Poly.{first}
 use Rattle.whole.specs.Ring.{var}
 use Rattle.whole.specs.Flat.{none, _also_, held, back}
 use Rattle.whole.specs.Bound.{fits64}
-use Rattle.whole.specs.Tests.{out}
+use Rattle.whole.specs.Tests.{out, out-ok}
 use Rattle.sheet.specs.declared.Point.{Point}
 use Rattle.sheet.specs.PointsLaws.{Sizes}
 use Rattle.kernel.specs.Bounds.{Coordinate}
@@ -46,3 +51,6 @@ along-out c d =
     λ i. first
     (sgn (back (c .bm) tt i *ℤ w2 i -ℤ back (d .bm) tt i *ℤ w i))
     (sgn (back (c .bn) tt i *ℤ w2 i -ℤ back (d .bn) tt i *ℤ w i))
+
+pub lead-is : {r a b u v : ℤ} → mag r < 2 ^ hbits w64 → r ≡ first (sgn a) (sgn b) → a ≡ u → b ≡ v → out r ≡ first (sgn u) (sgn v)
+lead-is {r} h e a b = out-ok r h ∙ e ∙ ap₂ (λ (x y : ℤ). first (sgn x) (sgn y)) a b

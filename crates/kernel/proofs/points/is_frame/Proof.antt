@@ -21,31 +21,31 @@ use Rattle.kernel.proofs.points.is_frame.Tie as tie
 abbrev point : tie.Start → Point
 point s = record { mx = s .args .mx; nx = s .args .nx; my = s .args .my; ny = s .args .ny; w = s .args .w }
 
-slim : (c : tie.After-is-narrow) → c .is-narrow .result ≡ narrow (point (c .before))
-slim c =
+test : (c : tie.After-is-narrow) → c .is-narrow .result ≡ narrow (point (c .before))
+test c =
     let s = c .before in
     simp (c .is-narrow .ensures, out-is, s .fits .mx, s .fits .nx, s .fits .my, s .fits .ny, s .fits .w)
 
 narrow-here : (c : tie.Else1) → narrow (point (c .before .before)) ≡ true
-narrow-here c = sym (slim (c .before)) ∙ not-false (c .before .is-narrow .result) (c .if1 .left)
+narrow-here c = sym (test (c .before)) ∙ not-false (c .before .is-narrow .result) (c .if1 .left)
 
 above : (c : tie.Else1) → pos 0 <ℤ c .before .before .args .w
 above c = narrow-is (point (c .before .before)) .0 (narrow-here c) .in-w .above
 
 -- of a narrow point the rest of the definition is left
-whole :
+frame-rest :
     (p : Point) → narrow p ≡ true →
     (edge (p .mx) (p .nx) (p .w) || edge (p .my) (p .ny) (p .w)) && inSquare (p .mx) (p .nx) (p .w) && inSquare (p .my) (p .ny) (p .w)
     ≡ frame p
 unfolding frame
-whole p h = simp h
+frame-rest p h = simp h
 
 is-narrow-requires : tie.Need-is-narrow-requires
 is-narrow-requires c κs = search needs
 
 returns : tie.Need-returns
 unfolding frame
-returns c = simp (sym (slim (c .before)) ∙ not-true (c .before .is-narrow .result) (c .if1 .taken))
+returns c = simp (sym (test (c .before)) ∙ not-true (c .before .is-narrow .result) (c .if1 .taken))
 
 cast-full : tie.Need-cast-full
 cast-full c =
@@ -78,7 +78,7 @@ returns-2 c =
     || (c .before .before .is-edge2 .ensures ∙ (λ j. edge (my j) (ny j) (w j))) i)
     && (c .before .is-in-square .ensures ∙ (λ j. inSquare (mx j) (nx j) (w j))) i
     && (c .is-in-square2 .ensures ∙ (λ j. inSquare (my j) (ny j) (w j))) i)
-    ∙ whole (point s) (narrow-here e)
+    ∙ frame-rest (point s) (narrow-here e)
 
 pub is-frame-spec : {M : Type 1} → statement M
 is-frame-spec =

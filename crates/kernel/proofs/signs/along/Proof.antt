@@ -1,11 +1,7 @@
-use mathlib.Core.Path.{_∙_, ap₂}
 use mathlib.Core.List.{[], _∷_}
-use lib.IntN.{ℤ}
-use Rattle.whole.specs.Sign.{sgn}
-use Rattle.whole.specs.Poly.{first}
 use Rattle.whole.specs.Ring.{Expr, var, _⊖_, _⊗_}
 use Rattle.whole.specs.Flat.{All, none, _also_, need, gives}
-use Rattle.whole.specs.Tests.{out-ok}
+use Rattle.kernel.proofs.Coordinates.{lead-is}
 use borrow.Author.Needs.{needs}
 use Rattle.kernel.proofs.signs.along.Statement.{statement}
 use Rattle.kernel.proofs.signs.along.Tie as tie
@@ -48,8 +44,7 @@ lead-requires c κs = search needs
 returns : tie.Need-returns
 returns c =
     let s = c .before in
-    out-ok (c .lead .result) (c .lead .ok) ∙ c .lead .ensures
-    ∙ ap₂ (λ (a b : ℤ). first (sgn a) (sgn b)) (gives (six s) aE tt) (gives (six s) bE tt)
+    lead-is (c .lead .ok) (c .lead .ensures) (gives (six s) aE tt) (gives (six s) bE tt)
 
 pub along-spec : {M : Type 1} → statement M
 along-spec = tie.close (tie.spec mul-a mul-a-2 sub-a mul-b mul-b-2 sub-b lead-requires returns)

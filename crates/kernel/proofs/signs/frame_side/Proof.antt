@@ -1,16 +1,14 @@
-use mathlib.Core.Path.{sym, _∙_, ap, ap₂}
+use mathlib.Core.Path.{sym, _∙_, ap}
 use mathlib.Core.List.{[], _∷_}
-use lib.IntN.{ℤ, negℤ, +ℤ-idl}
-use Rattle.whole.specs.Sign.{sgn}
-use Rattle.whole.specs.Poly.{first}
+use lib.IntN.{negℤ, +ℤ-idl}
 use Rattle.whole.specs.Ring.{var, lit, _⊕_, _⊖_}
 use Rattle.whole.specs.Flat.{All, none, _also_, need, gives}
-use Rattle.whole.specs.Tests.{out-ok}
 use Rattle.sheet.specs.declared.Point.{Point}
 use Rattle.sheet.specs.Figure.{Side, side}
 use Rattle.sheet.specs.Signs.{sideOfFigure}
 use Rattle.sheet.specs.Expansions.{left-side-is, bottom-side-is, right-side-is, top-side-is}
 use Rattle.kernel.specs.Kinds.{side-one, side-two, side-three, side-four}
+use Rattle.kernel.proofs.Coordinates.{lead-is}
 use borrow.Author.Needs.{needs}
 use Rattle.kernel.proofs.signs.frame_side.Statement.{statement}
 use Rattle.kernel.proofs.signs.frame_side.Tie as tie
@@ -33,8 +31,7 @@ lead-requires c κs = search needs
 returns : tie.Need-returns
 returns c =
     let s = c .before .before in
-    out-ok (c .lead .result) (c .lead .ok) ∙ c .lead .ensures
-    ∙ ap₂ (λ (a b : ℤ). first (sgn a) (sgn b)) (gives (five s) (var 0 ⊕ var 4) tt) (gives (five s) (var 1) tt)
+    lead-is (c .lead .ok) (c .lead .ensures) (gives (five s) (var 0 ⊕ var 4) tt) (gives (five s) (var 1) tt)
     ∙ sym (ap (λ (n : Side). sideOfFigure (side n) (point s)) (side-one (s .fits .n) (c .before .if1 .taken)) ∙ left-side-is (point s))
 
 add-lead-2 : tie.Need-add-lead-2
@@ -46,8 +43,7 @@ lead-requires-2 c κs = search needs
 returns-2 : tie.Need-returns-2
 returns-2 c =
     let s = c .before .before .before in
-    out-ok (c .lead2 .result) (c .lead2 .ok) ∙ c .lead2 .ensures
-    ∙ ap₂ (λ (a b : ℤ). first (sgn a) (sgn b)) (gives (five s) (var 2 ⊕ var 4) tt) (gives (five s) (var 3) tt)
+    lead-is (c .lead2 .ok) (c .lead2 .ensures) (gives (five s) (var 2 ⊕ var 4) tt) (gives (five s) (var 3) tt)
     ∙ sym (ap (λ (n : Side). sideOfFigure (side n) (point s)) (side-two (s .fits .n) (c .before .if2 .taken)) ∙ bottom-side-is (point s))
 
 sub-lead : tie.Need-sub-lead
@@ -62,8 +58,7 @@ lead-requires-3 c κs = search needs
 returns-3 : tie.Need-returns-3
 returns-3 c =
     let s = c .before .before .before .before in
-    out-ok (c .lead3 .result) (c .lead3 .ok) ∙ c .lead3 .ensures
-    ∙ ap₂ (λ (a b : ℤ). first (sgn a) (sgn b)) (gives (five s) (var 4 ⊖ var 0) tt) (gives (five s) (lit 0 ⊖ var 1) tt ∙ +ℤ-idl (negℤ (s .args .nx)))
+    lead-is (c .lead3 .ok) (c .lead3 .ensures) (gives (five s) (var 4 ⊖ var 0) tt) (gives (five s) (lit 0 ⊖ var 1) tt ∙ +ℤ-idl (negℤ (s .args .nx)))
     ∙ sym (ap (λ (n : Side). sideOfFigure (side n) (point s)) (side-three (s .fits .n) (c .before .if3 .taken)) ∙ right-side-is (point s))
 
 sub-lead-3 : tie.Need-sub-lead-3
@@ -78,8 +73,7 @@ lead-requires-4 c κs = search needs
 returns-4 : tie.Need-returns-4
 returns-4 c =
     let s = c .before .before .before .before in
-    out-ok (c .lead4 .result) (c .lead4 .ok) ∙ c .lead4 .ensures
-    ∙ ap₂ (λ (a b : ℤ). first (sgn a) (sgn b)) (gives (five s) (var 4 ⊖ var 2) tt) (gives (five s) (lit 0 ⊖ var 3) tt ∙ +ℤ-idl (negℤ (s .args .ny)))
+    lead-is (c .lead4 .ok) (c .lead4 .ensures) (gives (five s) (var 4 ⊖ var 2) tt) (gives (five s) (lit 0 ⊖ var 3) tt ∙ +ℤ-idl (negℤ (s .args .ny)))
     ∙ sym (ap (λ (n : Side). sideOfFigure (side n) (point s)) (side-four (s .args .n) (c .before .before .before .if1 .left) (c .before .before .if2 .left) (c .before .if3 .left)) ∙ top-side-is (point s))
 
 pub frame-side-spec : {M : Type 1} → statement M

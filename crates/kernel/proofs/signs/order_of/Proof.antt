@@ -1,10 +1,9 @@
 use mathlib.Core.Path.{sym, _∙_, ap₂}
-use lib.IntN.{ℤ}
-use Rattle.whole.specs.Sign.{sgn}
 use Rattle.whole.specs.Poly.{first}
 use Rattle.whole.specs.PolyLaws.{first-sgn}
 use Rattle.whole.specs.Tests.{out-ok}
 use Rattle.sheet.specs.Expansions.{order-is}
+use Rattle.kernel.proofs.Coordinates.{lead-is}
 use borrow.Author.Needs.{needs}
 use Rattle.kernel.proofs.signs.order_of.Statement.{statement}
 use Rattle.kernel.proofs.signs.order_of.Tie as tie
@@ -23,8 +22,7 @@ returns c =
     let s = c .before .before .before in
     let x = out-ok (c .before .before .order-x .result) (c .before .before .order-x .ok) ∙ c .before .before .order-x .ensures in
     let y = out-ok (c .before .order-y .result) (c .before .order-y .ok) ∙ c .before .order-y .ensures in
-    out-ok (c .lead .result) (c .lead .ok) ∙ c .lead .ensures
-    ∙ ap₂ (λ (a b : ℤ). first (sgn a) (sgn b)) x y
+    lead-is (c .lead .ok) (c .lead .ensures) x y
     ∙ ap₂ first (first-sgn _ _) (first-sgn _ _)
     ∙ sym (order-is (s .args .p) (s .args .q))
 

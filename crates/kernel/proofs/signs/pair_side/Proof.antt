@@ -1,11 +1,8 @@
-use mathlib.Core.Path.{_∙_, ap₂}
 use mathlib.Core.List.{[], _∷_}
-use lib.IntN.{ℤ}
-use Rattle.whole.specs.Sign.{sgn}
-use Rattle.whole.specs.Poly.{first}
 use Rattle.whole.specs.Ring.{Expr, var, _⊖_, _⊗_}
 use Rattle.whole.specs.Flat.{All, none, _also_, need, gives}
-use Rattle.whole.specs.Tests.{out-ok}
+use Rattle.kernel.proofs.Eight.{dxE, dyE}
+use Rattle.kernel.proofs.Coordinates.{lead-is}
 use borrow.Author.Needs.{needs}
 use Rattle.kernel.proofs.signs.pair_side.Statement.{statement}
 use Rattle.kernel.proofs.signs.pair_side.Tie as tie
@@ -18,12 +15,6 @@ nine :
 nine s =
     s .pre .0 .bpx also s .pre .0 .bpy also s .pre .0 .bqx also s .pre .0 .bqy
     also s .pre .1 .bm also s .pre .1 .bn also s .pre .2 .bm also s .pre .2 .bn also s .pre .2 .bw also none
-
-abbrev dxE : Expr
-dxE = var 2 ⊖ var 0
-
-abbrev dyE : Expr
-dyE = var 3 ⊖ var 1
 
 abbrev kE : Expr
 kE = dxE ⊗ var 1 ⊖ dyE ⊗ var 0
@@ -79,8 +70,7 @@ lead-requires c κs = search needs
 returns : tie.Need-returns
 returns c =
     let s = c .before in
-    out-ok (c .lead .result) (c .lead .ok) ∙ c .lead .ensures
-    ∙ ap₂ (λ (b c : ℤ). first (sgn b) (sgn c)) (gives (nine s) bE tt) (gives (nine s) cE tt)
+    lead-is (c .lead .ok) (c .lead .ensures) (gives (nine s) bE tt) (gives (nine s) cE tt)
 
 pub pair-side-spec : {M : Type 1} → statement M
 pair-side-spec =

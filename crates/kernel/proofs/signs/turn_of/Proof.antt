@@ -11,6 +11,7 @@ use Rattle.whole.specs.Tests.{out-ok}
 use Rattle.sheet.specs.Expansions.{turnC, turn-is}
 use Rattle.kernel.specs.Forms.{mixed-is}
 use Rattle.kernel.proofs.Det.{mn, nm, det-within}
+use Rattle.kernel.proofs.Coordinates.{lead-is}
 use borrow.Author.Needs.{needs}
 use Rattle.kernel.proofs.signs.turn_of.Statement.{statement}
 use Rattle.kernel.proofs.signs.turn_of.Tie as tie
@@ -54,9 +55,7 @@ returns c =
     ∙ mixed-is (s .args .p) (s .args .q) (s .args .s)
     in
     let e = out-ok (c .before .before .turn-c .result) (c .before .before .turn-c .ok) ∙ c .before .before .turn-c .ensures in
-    let ab = out-ok (c .before .lead .result) (c .before .lead .ok) ∙ c .before .lead .ensures ∙ ap₂ (λ (x y : ℤ). first (sgn x) (sgn y)) a b in
-    out-ok (c .lead2 .result) (c .lead2 .ok) ∙ c .lead2 .ensures
-    ∙ ap₂ (λ (x y : ℤ). first (sgn x) (sgn y)) ab e
+    lead-is (c .lead2 .ok) (c .lead2 .ensures) (lead-is (c .before .lead .ok) (c .before .lead .ensures) a b) e
     ∙ ap (λ (x : ℤ). first x (sgn (turnC (s .args .p) (s .args .q) (s .args .s)))) (first-sgn _ _)
     ∙ sym (turn-is (s .args .p) (s .args .q) (s .args .s))
 

@@ -5,11 +5,11 @@ use borrow.Author.Needs.{needs}
 use Rattle.kernel.proofs.signs.wide_refusal.Statement.{statement}
 use Rattle.kernel.proofs.signs.wide_refusal.Tie as tie
 
-slim :
+test :
     (c : tie.After-check-narrow3) →
     c .before .before .check-narrow .result && c .before .check-narrow2 .result && c .check-narrow3 .result
     ≡ narrow (c .before .before .before .args .p) && narrow (c .before .before .before .args .q) && narrow (c .before .before .before .args .s)
-slim c = simp (c .before .before .check-narrow .ensures, c .before .check-narrow2 .ensures, c .check-narrow3 .ensures)
+test c = simp (c .before .before .check-narrow .ensures, c .before .check-narrow2 .ensures, c .check-narrow3 .ensures)
 
 check-narrow-requires : tie.Need-check-narrow-requires
 check-narrow-requires c κs = search needs
@@ -21,10 +21,10 @@ check-narrow-requires-3 : tie.Need-check-narrow-requires-3
 check-narrow-requires-3 c κs = search needs
 
 returns : tie.Need-returns
-returns c = simp (sym (slim (c .before)) ∙ c .if1 .taken)
+returns c = simp (sym (test (c .before)) ∙ c .if1 .taken)
 
 returns-2 : tie.Need-returns-2
-returns-2 c = simp (sym (slim (c .before)) ∙ c .if1 .left)
+returns-2 c = simp (sym (test (c .before)) ∙ c .if1 .left)
 
 pub wide-refusal-spec : {M : Type 1} → statement M
 wide-refusal-spec =
