@@ -3,7 +3,7 @@
 --            what the cut pieces at R say, or the refusal that the paper names
 -- The contracts are the functions' own (`Post`), which the kernel's code is proved to meet.
 use mathlib.Core.Path.{_≡_, refl, sym, _∙_, subst}
-use mathlib.Core.List.{[], _∷_, _++_}
+use mathlib.Core.List.{List, [], _∷_, _++_}
 use lib.IntN.{ℤ, pos, ℤ-discrete}
 use lib.Signed.{_≤ℤ_}
 use contract.Lifetimes.{Lfts}
@@ -33,17 +33,27 @@ use Rattle.kernel.proofs.signs.turn_points.Reads as turn-points
 use Rattle.kernel.proofs.signs.side_of.Reads as side-of
 use Rattle.demand.specs.Said.{PieceEnds, EndsSaid, ends-refused, ends-given, OrderSaid, order-refused, order-given, TurnSaid, turn-refused, turn-given, SideSaid, side-refused, side-given, CrossSaid, cross-refused, cross-none, cross-point, cross-many}
 
--- an answer by its refusal: 0 or not
-data Cases (n : ℤ) : Type 0 where
-  empty : n ≡ pos 0 → Cases n
-  some : (n ≡ pos 0 → ⊥) → Cases n
-
-cases : (n : ℤ) → Cases n
-cases n = go (ℤ-discrete n (pos 0))
+-- an answer that says what `answer` does is `given` where the refusal n is 0, and else `other`, which says n
+said :
+    {A : Type 0} {says : A → List ℤ} (one : (r s : A) → says r ≡ says s → r ≡ s) (F : A → Type 0) {n : ℤ} {values : List ℤ} (given other : A)
+    → says given ≡ pos 0 ∷ values → says other ≡ n ∷ [] → (n ≡ pos 0 → F given) → ((n ≡ pos 0 → ⊥) → F other)
+    → (r : A) → says r ≡ answer n values → F r
+said one F {n} {values} given other f g h k r e = go (ℤ-discrete n (pos 0))
   where
-    go : Dec (n ≡ pos 0) → Cases n
-    go (yes e) = empty e
-    go (no d) = some d
+    go : Dec (n ≡ pos 0) → F r
+    go (yes z) = subst F (sym (one r given (e ∙ accepted values z ∙ sym f))) (h z)
+    go (no d) = subst F (sym (one r other (e ∙ refused values d ∙ sym g))) (k d)
+
+-- a crossing as it is answered
+abbrev told : Meeting → Crossing
+told none = crossing.Nothing
+told (point p) = crossing.Once p
+told many = crossing.Many
+
+told-says : (m : Meeting) → crossingSays (told m) ≡ pos 0 ∷ meetingNumbers m
+told-says none = refl
+told-says (point p) = refl
+told-says many = refl
 
 module _ (R : ℤ) (d : DemandAt R) where
   piece-ends : {o : Object} → EndsHold R o → PieceEnds R o (firstEnd o) (lastEnd o)
@@ -57,69 +67,52 @@ module _ (R : ℤ) (d : DemandAt R) where
   }
 
   ends-said : (o : Object) (r : Ends) → endsSay r ≡ answer (objectRefusal o) (numbers (firstEnd o) ++ numbers (lastEnd o)) → EndsSaid R o r
-  ends-said o r e = go (cases (objectRefusal o))
-    where
-      go : Cases (objectRefusal o) → EndsSaid R o r
-      go (empty z) =
-          subst (EndsSaid R o) (sym (ends-one r (ends.Both (firstEnd o) (lastEnd o)) (e ∙ accepted _ z)))
-          (ends-given z (piece-ends (d .holds .ends o (record { accepted = z }))))
-      go (some n) =
-          subst (EndsSaid R o) (sym (ends-one r (ends.Refused (objectRefusal o)) (e ∙ refused _ n))) (ends-refused refl n)
+  ends-said o =
+      said ends-one (EndsSaid R o) (ends.Both (firstEnd o) (lastEnd o)) (ends.Refused (objectRefusal o)) refl refl
+      (λ z. ends-given z (piece-ends (d .holds .ends o (record { accepted = z }))))
+      (ends-refused refl)
 
   order-said : (p q : Point) (r : Signed) → signedSays r ≡ answer (orderRefusal p q) (order p q ∷ []) → OrderSaid R p q r
-  order-said p q r e = go (cases (orderRefusal p q))
-    where
-      go : Cases (orderRefusal p q) → OrderSaid R p q r
-      go (empty z) =
-          let t = order-taken p q z in
-          let h = d .holds .above p (t .0) in
-          let k = d .holds .above q (t .1) in
-          subst (OrderSaid R p q) (sym (signed-one r (signed.Sign (order p q)) (e ∙ accepted _ z)))
-          (order-given h k (d .holds .orders p q (t .0) (t .1) h k))
-      go (some n) =
-          subst (OrderSaid R p q) (sym (signed-one r (signed.Refused (orderRefusal p q)) (e ∙ refused _ n))) (order-refused refl n)
+  order-said p q =
+      said signed-one (OrderSaid R p q) (signed.Sign (order p q)) (signed.Refused (orderRefusal p q)) refl refl
+      (λ z.
+      let t = order-taken p q z in
+      let h = d .holds .above p (t .0) in
+      let k = d .holds .above q (t .1) in
+      order-given h k (d .holds .orders p q (t .0) (t .1) h k))
+      (order-refused refl)
 
   turn-said : (p q t : Point) (r : Signed) → signedSays r ≡ answer (turnRefusal p q t) (turn p q t ∷ []) → TurnSaid R p q t r
-  turn-said p q t r e = go (cases (turnRefusal p q t))
-    where
-      go : Cases (turnRefusal p q t) → TurnSaid R p q t r
-      go (empty z) =
-          let i = turn-taken p q t z in
-          let h = d .holds .above p (i .0) in
-          let k = d .holds .above q (i .1) in
-          let l = d .holds .above t (i .2) in
-          subst (TurnSaid R p q t) (sym (signed-one r (signed.Sign (turn p q t)) (e ∙ accepted _ z)))
-          (turn-given h k l (sym (d .turns p q t (i .0) (i .1) (i .2) (i .3) (i .4) (i .5) h k l)))
-      go (some n) =
-          subst (TurnSaid R p q t) (sym (signed-one r (signed.Refused (turnRefusal p q t)) (e ∙ refused _ n))) (turn-refused refl n)
+  turn-said p q t =
+      said signed-one (TurnSaid R p q t) (signed.Sign (turn p q t)) (signed.Refused (turnRefusal p q t)) refl refl
+      (λ z.
+      let i = turn-taken p q t z in
+      let h = d .holds .above p (i .0) in
+      let k = d .holds .above q (i .1) in
+      let l = d .holds .above t (i .2) in
+      turn-given h k l (sym (d .turns p q t (i .0) (i .1) (i .2) (i .3) (i .4) (i .5) h k l)))
+      (turn-refused refl)
 
   side-said : (o : Object) (t : Point) (r : Signed) → signedSays r ≡ answer (sideSignRefusal o t) (sideSign o t ∷ []) → SideSaid R o t r
-  side-said o t r e = go (cases (sideSignRefusal o t))
-    where
-      go : Cases (sideSignRefusal o t) → SideSaid R o t r
-      go (empty z) =
-          let i = side-taken o t z in
-          let l = d .holds .above t (i .1) in
-          subst (SideSaid R o t) (sym (signed-one r (signed.Sign (sideSign o t)) (e ∙ accepted _ z)))
-          (side-given l (sym (d .holds .sides o (i .0) t (i .1) l)))
-      go (some n) =
-          subst (SideSaid R o t) (sym (signed-one r (signed.Refused (sideSignRefusal o t)) (e ∙ refused _ n))) (side-refused refl n)
+  side-said o t =
+      said signed-one (SideSaid R o t) (signed.Sign (sideSign o t)) (signed.Refused (sideSignRefusal o t)) refl refl
+      (λ z.
+      let i = side-taken o t z in
+      let l = d .holds .above t (i .1) in
+      side-given l (sym (d .holds .sides o (i .0) t (i .1) l)))
+      (side-refused refl)
 
   cross-said :
       (a b : Object) (r : Crossing) → crossingSays r ≡ answer (crossingRefusal a b) (meetingNumbers (crossingOf a b)) → CrossSaid R a b r
-  cross-said a b r e = go (cases (crossingRefusal a b))
+  cross-said a b =
+      said crossing-one (CrossSaid R a b) (told (crossingOf a b)) (crossing.Refused (crossingRefusal a b)) (told-says (crossingOf a b)) refl
+      (λ z. let t = cross-taken a b z in by (crossingOf a b) refl (d .holds .crossings a b (t .0) (t .1)))
+      (cross-refused refl)
     where
-      by : (m : Meeting) → crossingOf a b ≡ m → CrossingHolds R a b → crossingSays r ≡ pos 0 ∷ meetingNumbers m → CrossSaid R a b r
-      by none q h f = subst (CrossSaid R a b) (sym (crossing-one r crossing.Nothing f)) (cross-none (h .none-exactly .0 q))
-      by (point p) q h f = subst (CrossSaid R a b) (sym (crossing-one r (crossing.Once p) f)) (cross-point (h .point-said p q))
-      by many q h f = subst (CrossSaid R a b) (sym (crossing-one r crossing.Many f)) (cross-many (h .many-exactly .0 q))
-
-      go : Cases (crossingRefusal a b) → CrossSaid R a b r
-      go (empty z) =
-          let t = cross-taken a b z in
-          by (crossingOf a b) refl (d .holds .crossings a b (t .0) (t .1)) (e ∙ accepted _ z)
-      go (some n) =
-          subst (CrossSaid R a b) (sym (crossing-one r (crossing.Refused (crossingRefusal a b)) (e ∙ refused _ n))) (cross-refused refl n)
+      by : (m : Meeting) → crossingOf a b ≡ m → CrossingHolds R a b → CrossSaid R a b (told m)
+      by none q h = cross-none (h .none-exactly .0 q)
+      by (point p) q h = cross-point (h .point-said p q)
+      by many q h = cross-many (h .many-exactly .0 q)
 
 -- ---- the demand
 
