@@ -79,7 +79,7 @@ module _ (R : ℤ) (d : DemandAt R) where
       let t = order-taken p q z in
       let h = d .holds .above p (t .0) in
       let k = d .holds .above q (t .1) in
-      order-given h k (d .holds .orders p q (t .0) (t .1) h k))
+      order-given z h k (d .holds .orders p q (t .0) (t .1) h k))
       (order-refused refl)
 
   turn-said : (p q t : Point) (r : Signed) → signedSays r ≡ answer (turnRefusal p q t) (turn p q t ∷ []) → TurnSaid R p q t r
@@ -90,7 +90,7 @@ module _ (R : ℤ) (d : DemandAt R) where
       let h = d .holds .above p (i .0) in
       let k = d .holds .above q (i .1) in
       let l = d .holds .above t (i .2) in
-      turn-given h k l (sym (d .turns p q t (i .0) (i .1) (i .2) (i .3) (i .4) (i .5) h k l)))
+      turn-given z h k l (sym (d .turns p q t (i .0) (i .1) (i .2) (i .3) (i .4) (i .5) h k l)))
       (turn-refused refl)
 
   side-said : (o : Object) (t : Point) (r : Signed) → signedSays r ≡ answer (sideSignRefusal o t) (sideSign o t ∷ []) → SideSaid R o t r
@@ -99,20 +99,20 @@ module _ (R : ℤ) (d : DemandAt R) where
       (λ z.
       let i = side-taken o t z in
       let l = d .holds .above t (i .1) in
-      side-given l (sym (d .holds .sides o (i .0) t (i .1) l)))
+      side-given z l (sym (d .holds .sides o (i .0) t (i .1) l)))
       (side-refused refl)
 
   cross-said :
       (a b : Object) (r : Crossing) → crossingSays r ≡ answer (crossingRefusal a b) (meetingNumbers (crossingOf a b)) → CrossSaid R a b r
   cross-said a b =
       said crossing-one (CrossSaid R a b) (told (crossingOf a b)) (crossing.Refused (crossingRefusal a b)) (told-says (crossingOf a b)) refl
-      (λ z. let t = cross-taken a b z in by (crossingOf a b) refl (d .holds .crossings a b (t .0) (t .1)))
+      (λ z. let t = cross-taken a b z in by (crossingOf a b) refl z (d .holds .crossings a b (t .0) (t .1)))
       (cross-refused refl)
     where
-      by : (m : Meeting) → crossingOf a b ≡ m → CrossingHolds R a b → CrossSaid R a b (told m)
-      by none q h = cross-none (h .none-exactly .0 q)
-      by (point p) q h = cross-point (h .point-said p q)
-      by many q h = cross-many (h .many-exactly .0 q)
+      by : (m : Meeting) → crossingOf a b ≡ m → crossingRefusal a b ≡ pos 0 → CrossingHolds R a b → CrossSaid R a b (told m)
+      by none q z h = cross-none z (h .none-exactly .0 q)
+      by (point p) q z h = cross-point z (h .point-said p q)
+      by many q z h = cross-many z (h .many-exactly .0 q)
 
 -- ---- the demand
 

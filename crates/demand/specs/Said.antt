@@ -1,4 +1,4 @@
--- What demand 3 says of an answer of the code: refused by the paper's number, or what the cut pieces at R say.
+-- What demand 3 says of an answer of the code: refused by the paper's number, or not refused there, and what the cut pieces at R say.
 use mathlib.Core.Path.{_≡_}
 use lib.IntN.{ℤ, pos}
 use lib.Signed.{_<ℤ_}
@@ -35,22 +35,22 @@ pub data EndsSaid (R : ℤ) (o : Object) : Ends → Type 0 where
 -- "order, turn and side have the ordinary signs"
 pub data OrderSaid (R : ℤ) (p q : Point) : Signed → Type 0 where
   order-refused : {n : ℤ} → n ≡ orderRefusal p q → (n ≡ pos 0 → ⊥) → OrderSaid R p q (signed.Refused n)
-  order-given : {s : ℤ} (h : pos 0 <ℤ p .w) (k : pos 0 <ℤ q .w) → Ordered (put R p h) (put R q k) s → OrderSaid R p q (signed.Sign s)
+  order-given : {s : ℤ} → orderRefusal p q ≡ pos 0 → (h : pos 0 <ℤ p .w) (k : pos 0 <ℤ q .w) → Ordered (put R p h) (put R q k) s → OrderSaid R p q (signed.Sign s)
 
 pub data TurnSaid (R : ℤ) (p q t : Point) : Signed → Type 0 where
   turn-refused : {n : ℤ} → n ≡ turnRefusal p q t → (n ≡ pos 0 → ⊥) → TurnSaid R p q t (signed.Refused n)
-  turn-given : {s : ℤ} (h : pos 0 <ℤ p .w) (k : pos 0 <ℤ q .w) (l : pos 0 <ℤ t .w)
+  turn-given : {s : ℤ} → turnRefusal p q t ≡ pos 0 → (h : pos 0 <ℤ p .w) (k : pos 0 <ℤ q .w) (l : pos 0 <ℤ t .w)
       → s ≡ signOf (determinant (put R p h) (put R q k) (put R t l)) → TurnSaid R p q t (signed.Sign s)
 
 pub data SideSaid (R : ℤ) (o : Object) (t : Point) : Signed → Type 0 where
   side-refused : {n : ℤ} → n ≡ sideSignRefusal o t → (n ≡ pos 0 → ⊥) → SideSaid R o t (signed.Refused n)
-  side-given : {s : ℤ} (l : pos 0 <ℤ t .w)
+  side-given : {s : ℤ} → sideSignRefusal o t ≡ pos 0 → (l : pos 0 <ℤ t .w)
       → s ≡ signOf (determinant (tail R (figure o)) (tip R (figure o)) (put R t l)) → SideSaid R o t (signed.Sign s)
 
 -- "crossing says point exactly when two cut pieces share one point, and gives it, many exactly when they share more, none exactly when
 -- they share nothing": what it says holds, and since what two pieces share is one of the three, it says so exactly then
 pub data CrossSaid (R : ℤ) (a b : Object) : Crossing → Type 0 where
   cross-refused : {n : ℤ} → n ≡ crossingRefusal a b → (n ≡ pos 0 → ⊥) → CrossSaid R a b (crossing.Refused n)
-  cross-none : NothingShared R a b → CrossSaid R a b crossing.Nothing
-  cross-point : {e : Point} → SharedPoint R a b e → CrossSaid R a b (crossing.Once e)
-  cross-many : MoreShared R a b → CrossSaid R a b crossing.Many
+  cross-none : crossingRefusal a b ≡ pos 0 → NothingShared R a b → CrossSaid R a b crossing.Nothing
+  cross-point : {e : Point} → crossingRefusal a b ≡ pos 0 → SharedPoint R a b e → CrossSaid R a b (crossing.Once e)
+  cross-many : crossingRefusal a b ≡ pos 0 → MoreShared R a b → CrossSaid R a b crossing.Many
