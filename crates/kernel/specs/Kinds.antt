@@ -1,11 +1,11 @@
 -- An accepted object by the tests of its kind. To cite:
 --   lit-taken                   the code's test of a number against a literal, as an equation
---   accepted-pair               not a side: p and q are given points that differ
+--   accepted-pair, accepted-side   not a side: p and q are given points that differ; a side: its number is that of one
 --   first-side, last-side, first-line, first-given, last-given, last-far   the ends by the kind
 --   side-pair                   the side of one that is not a frame side
 --   side-one, side-two, side-three, side-four   the side of a number, by the code's tests
 -- Assumes nothing.
-use mathlib.Core.Path.{_≡_, ap}
+use mathlib.Core.Path.{_≡_, sym, _∙_, ap}
 use Prim.Native.Nat.{ℕ, _^_}
 use lib.Dec.{T, ltb}
 use lib.IntN.{ℤ, pos}
@@ -16,8 +16,8 @@ use Rattle.whole.specs.Tests.{ne-eqZ, eq-taken, eq-left}
 use Rattle.sheet.specs.declared.Object.{Object}
 use Rattle.sheet.specs.declared.Point.{Point}
 use Rattle.sheet.specs.Figure.{_⇀_, left, bottom, right, top, sideOf, first, second, figure}
-use Rattle.sheet.specs.Refusal.{Accepted}
-use Rattle.sheet.specs.RefusalLaws.{Proper, kind-segment, kind-line, kind-side, Taken, a-segment, a-ray, a-line, a-side, accepted-taken}
+use Rattle.sheet.specs.Refusal.{refusalOf, objectRefusal, Accepted}
+use Rattle.sheet.specs.RefusalLaws.{Proper, ASide, side-proper, kind-segment, kind-line, kind-side, Taken, a-segment, a-ray, a-line, a-side, accepted-taken}
 use Rattle.sheet.specs.Points.{given}
 use Rattle.sheet.specs.Signs.{turn, sideSign}
 use Rattle.sheet.specs.Expansions.{side-of-figure}
@@ -60,6 +60,11 @@ module _ (o : Object) where
   pub last-given : o .kind ≡ pos 1 → lastEnd o ≡ given (second o)
   unfolding lastEnd
   last-given e = ap lastOf (kind-segment o e)
+
+  pub accepted-side : Accepted o → o .kind ≡ pos 4 → ASide (o .px) (o .py) (o .qx) (o .qy)
+  unfolding objectRefusal
+  accepted-side a e =
+      side-proper (o .px) (o .py) (o .qx) (o .qy) (sym (ap (λ (k : ℤ). refusalOf k (o .px) (o .py) (o .qx) (o .qy)) e) ∙ a .accepted)
 
   module _ (a : Accepted o) (s : o .kind ≡ pos 4 → ⊥) where
     pub accepted-pair : Proper (first o) (second o)

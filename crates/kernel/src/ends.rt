@@ -9,7 +9,7 @@ ghost use lib.IntN.{pos};
 ghost use Rattle.sheet.specs.Figure.{sideOf};
 ghost use Rattle.sheet.specs.Refusal.{objectRefusal, Accepted};
 ghost use Rattle.sheet.specs.Points.{numbers, given};
-ghost use Rattle.sheet.specs.Ends.{corner, begins, nextSide, firstEnd, lastEnd};
+ghost use Rattle.sheet.specs.Ends.{corner, begins, firstEnd, lastEnd};
 ghost use Rattle.sheet.specs.Answers.{answer, endsSay};
 
 fn given_point(x: i64, y: i64) -> Point
@@ -52,22 +52,6 @@ fn side_begins(n: i64) -> Point
     frame_corner(1, 1)
 }
 
-// ... and where it ends, which is where the next one begins.
-fn side_stops(n: i64) -> Point
-    ensures { λ r. ⌜ r ≡ begins (nextSide (sideOf n)) ⌝ }
-{
-    if n == 1 {
-        return frame_corner(-1, -1);
-    }
-    if n == 2 {
-        return frame_corner(1, -1);
-    }
-    if n == 3 {
-        return frame_corner(1, 1);
-    }
-    frame_corner(-1, 1)
-}
-
 fn first_end(kind: i64, px: i64, py: i64, qx: i64, qy: i64) -> Point
     requires { ⌜ Accepted (record { kind = kind; px = px; py = py; qx = qx; qy = qy }) ⌝ }
     ensures { λ r. ⌜ r ≡ firstEnd (record { kind = kind; px = px; py = py; qx = qx; qy = qy }) ⌝ }
@@ -88,7 +72,9 @@ fn last_end(kind: i64, px: i64, py: i64, qx: i64, qy: i64) -> Point
     ensures { λ r. ⌜ r ≡ lastEnd (record { kind = kind; px = px; py = py; qx = qx; qy = qy }) ⌝ }
 {
     if kind == Object::SIDE {
-        return side_stops(px);
+        // a side ends where the next one begins, and 1 comes after 4
+        let next = px % 4 + 1;
+        return side_begins(next);
     }
     if kind == Object::SEGMENT {
         return given_point(qx, qy);

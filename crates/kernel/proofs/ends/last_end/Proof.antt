@@ -1,13 +1,18 @@
-use mathlib.Core.Path.{sym, _∙_, ap}
-use lib.IntN.{ℤ}
+use mathlib.Core.Path.{_≡_, refl, sym, _∙_, ap, subst}
+use native.Mathlib.Omega.{arith}
+use lib.IntN.{ℤ, pos, _+ℤ_}
+use lib.Signed.{quotZ, remZ}
+use mir.Syntax.{w64}
+use mir.Val.{SFits}
+use Rattle.whole.specs.Bound.{fits64, w-pos}
 use Rattle.whole.specs.Flat.{need}
-use Rattle.whole.specs.Tests.{out-is, eq-left}
+use Rattle.whole.specs.Tests.{out, out-is, eq-left}
 use Rattle.sheet.specs.declared.Object.{Object}
-use Rattle.sheet.specs.Figure.{sideOf, first, second}
-use Rattle.sheet.specs.RefusalLaws.{Proper}
+use Rattle.sheet.specs.Figure.{Side, left, bottom, right, top, sideOf, first, second}
+use Rattle.sheet.specs.RefusalLaws.{Proper, sideNumber}
 use Rattle.sheet.specs.Points.{given}
 use Rattle.sheet.specs.Ends.{farEnd, begins, nextSide}
-use Rattle.kernel.specs.Kinds.{lit-taken, accepted-pair, last-side, last-given, last-far}
+use Rattle.kernel.specs.Kinds.{lit-taken, accepted-pair, accepted-side, last-side, last-given, last-far}
 use Rattle.kernel.specs.Pieces.{object}
 use Rattle.kernel.proofs.Eight.{dxE, dyE}
 use Rattle.kernel.proofs.Ahead.{place, pair, way, ahead}
@@ -21,14 +26,39 @@ o s = object (s .args .kind) (s .args .px) (s .args .py) (s .args .qx) (s .args 
 proper : (c : tie.Else2) → Proper (first (o (c .before .before))) (second (o (c .before .before)))
 proper c = accepted-pair (o (c .before .before)) (c .before .before .pre) (eq-left (c .before .if1 .left))
 
-side-stops-requires : tie.Need-side-stops-requires
-side-stops-requires c κs = search needs
+-- the number of the next side as the code finds it
+record Next (n : ℤ) : Type 0 where
+  quotient : SFits w64 (quotZ (out n) (pos 4))
+  sum : SFits w64 (out (remZ (out n) (pos 4)) +ℤ pos 1)
+  is-next : sideOf (out (out (remZ (out n) (pos 4)) +ℤ pos 1)) ≡ nextSide (sideOf n)
+
+next : (n : Side) → Next (sideNumber n)
+unfolding sideOf
+next left = record { quotient = fits64 (w-pos 0) tt; sum = fits64 (w-pos 2) tt; is-next = refl }
+next bottom = record { quotient = fits64 (w-pos 0) tt; sum = fits64 (w-pos 3) tt; is-next = refl }
+next right = record { quotient = fits64 (w-pos 0) tt; sum = fits64 (w-pos 4) tt; is-next = refl }
+next top = record { quotient = fits64 (w-pos 1) tt; sum = fits64 (w-pos 1) tt; is-next = refl }
+
+next-here : (c : tie.Then1) → Next (c .before .args .px)
+next-here c =
+    let s = c .before in
+    let a = accepted-side (o s) (s .pre) (lit-taken 4 tt (s .fits .kind) (c .if1 .taken)) in
+    subst Next (sym (a .number)) (next (a .which))
+
+rem-next : tie.Need-rem-next
+rem-next c = (omega arith, next-here c .quotient)
+
+add-next : tie.Need-add-next
+add-next c = next-here c .sum
+
+side-begins-requires : tie.Need-side-begins-requires
+side-begins-requires c κs = search needs
 
 returns : tie.Need-returns
 returns c =
     let s = c .before .before in
     let four = lit-taken 4 tt (s .fits .kind) (c .before .if1 .taken) in
-    c .side-stops .ensures ∙ ap (λ (n : ℤ). begins (nextSide (sideOf n))) (out-is (s .fits .px)) ∙ sym (last-side (o s) four)
+    c .side-begins .ensures ∙ ap begins (next-here (c .before) .is-next) ∙ sym (last-side (o s) four)
 
 given-point-requires : tie.Need-given-point-requires
 given-point-requires c κs = search needs
@@ -61,7 +91,9 @@ pub last-end-spec : {M : Type 1} → statement M
 last-end-spec =
     tie.close
     (tie.spec
-    side-stops-requires
+    rem-next
+    add-next
+    side-begins-requires
     returns
     given-point-requires
     returns-2
