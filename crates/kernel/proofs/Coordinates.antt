@@ -4,11 +4,7 @@
 --   point-out                    the point
 --   lead-is                      the sign that `lead` gives, by numbers equal to those that it was given
 use mathlib.Core.Path.{_≡_, _∙_, ap₂}
-use Prim.Native.Nat.{_<_, _^_}
 use lib.IntN.{ℤ, _-ℤ_, _*ℤ_}
-use lib.Signed.{mag}
-use mir.Syntax.{w64}
-use mir.Val.{hbits}
 use Rattle.whole.specs.Sign.{sgn}
 use Rattle.whole.specs.Poly.{first}
 use Rattle.whole.specs.Ring.{var}
@@ -52,5 +48,5 @@ along-out c d =
     (sgn (back (c .bm) tt i *ℤ w2 i -ℤ back (d .bm) tt i *ℤ w i))
     (sgn (back (c .bn) tt i *ℤ w2 i -ℤ back (d .bn) tt i *ℤ w i))
 
-pub lead-is : {r a b u v : ℤ} → mag r < 2 ^ hbits w64 → r ≡ first (sgn a) (sgn b) → a ≡ u → b ≡ v → out r ≡ first (sgn u) (sgn v)
+pub lead-is : {r a b u v : ℤ} → handed.Fit r → r ≡ first (sgn a) (sgn b) → a ≡ u → b ≡ v → out r ≡ first (sgn u) (sgn v)
 lead-is {r} h e a b = out-ok r h ∙ e ∙ ap₂ (λ (x y : ℤ). first (sgn x) (sgn y)) a b

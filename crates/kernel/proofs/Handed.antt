@@ -1,4 +1,5 @@
 -- A struct that is handed on number by number is the struct: each number comes out of a local as it went in. To cite:
+--   Fit                       what is known of such a number: of a call's result it is `.ok`
 --   objectOut, pointOut       the struct of numbers that come out of locals
 --   object, point             from what is known of each number: `object o (s .fits .kind .sfits) (s .fits .px .sfits) ..`
 --   object-told, point-told   from what `struct-told` says of all five: `object-told o (c .struct-told .given)`
@@ -12,7 +13,7 @@ use Rattle.whole.specs.Tests.{out, out-ok}
 use Rattle.sheet.specs.declared.Object.{Object}
 use Rattle.sheet.specs.declared.Point.{Point}
 
-abbrev Fit : ℤ → Type 0
+abbrev pub Fit : ℤ → Type 0
 Fit z = mag z < 2 ^ hbits w64
 
 abbrev pub objectOut : Object → Object

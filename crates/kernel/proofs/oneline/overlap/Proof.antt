@@ -1,5 +1,7 @@
 use mathlib.Core.Path.{_≡_, sym, _∙_, ap}
 use mathlib.Core.Bool.{Bool, cond}
+use mathlib.Core.List.{List}
+use lib.IntN.{ℤ}
 use lib.Signed.{ltZ}
 use Rattle.whole.specs.Tests.{out, out-is, out-ok, lt-flag}
 use Rattle.kernel.specs.Pieces.{at, betweenBy}
@@ -16,6 +18,13 @@ stop c =
     out-ok (c .pick .result) (c .pick .ok) ∙ c .pick .ensures
     ∙ (λ i. cond (ltZ (out-is (s .fits .hi) i) (out-is (s .fits .high) i)) (out-is (s .fits .hi) i) (out-is (s .fits .high) i))
 
+-- what they share where the second one's start is the later, or not
+abbrev shared : tie.Start → Bool → List ℤ
+shared s t = say (betweenBy
+    (cond t (s .args .low) (s .args .lo))
+    (cond (ltZ (s .args .hi) (s .args .high)) (s .args .hi) (s .args .high))
+    (cond t (at (s .args .u) (s .args .v)) (at (s .args .x) (s .args .y))))
+
 pick-requires : tie.Need-pick-requires
 pick-requires c κs = search needs
 
@@ -25,13 +34,9 @@ between-requires c κs = search needs
 returns : tie.Need-returns
 returns c =
     let s = c .before .before .before in
-    let flag = lt-flag (s .fits .lo) (s .fits .low) (c .before .if1 .taken) in
-    let start = out-is (s .fits .low) ∙ sym (ap (λ (t : Bool). cond t (s .args .low) (s .args .lo)) flag) in
-    let place =
-    (λ i. at (out-is (s .fits .u) i) (out-is (s .fits .v) i))
-    ∙ sym (ap (λ (t : Bool). cond t (at (s .args .u) (s .args .v)) (at (s .args .x) (s .args .y))) flag)
-    in
-    c .between .ensures ∙ (λ i. say (betweenBy (start i) (stop (c .before .before) i) (place i)))
+    c .between .ensures
+    ∙ (λ i. say (betweenBy (out-is (s .fits .low) i) (stop (c .before .before) i) (at (out-is (s .fits .u) i) (out-is (s .fits .v) i))))
+    ∙ sym (ap (shared s) (lt-flag (s .fits .lo) (s .fits .low) (c .before .if1 .taken)))
 
 between-requires-2 : tie.Need-between-requires-2
 between-requires-2 c κs = search needs
@@ -39,13 +44,9 @@ between-requires-2 c κs = search needs
 returns-2 : tie.Need-returns-2
 returns-2 c =
     let s = c .before .before .before in
-    let flag = lt-flag (s .fits .lo) (s .fits .low) (c .before .if1 .left) in
-    let start = out-is (s .fits .lo) ∙ sym (ap (λ (t : Bool). cond t (s .args .low) (s .args .lo)) flag) in
-    let place =
-    (λ i. at (out-is (s .fits .x) i) (out-is (s .fits .y) i))
-    ∙ sym (ap (λ (t : Bool). cond t (at (s .args .u) (s .args .v)) (at (s .args .x) (s .args .y))) flag)
-    in
-    c .between2 .ensures ∙ (λ i. say (betweenBy (start i) (stop (c .before .before) i) (place i)))
+    c .between2 .ensures
+    ∙ (λ i. say (betweenBy (out-is (s .fits .lo) i) (stop (c .before .before) i) (at (out-is (s .fits .x) i) (out-is (s .fits .y) i))))
+    ∙ sym (ap (shared s) (lt-flag (s .fits .lo) (s .fits .low) (c .before .if1 .left)))
 
 pub overlap-spec : {M : Type 1} → statement M
 overlap-spec =

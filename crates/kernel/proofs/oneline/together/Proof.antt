@@ -1,17 +1,17 @@
 use mathlib.Core.Path.{_≡_, refl, _∙_, ap}
 use mathlib.Core.Bool.{cond}
-use Prim.Native.Nat.{ℕ, _<_, _^_}
+use Prim.Native.Nat.{ℕ, _^_}
 use lib.Dec.{T, eqb, ltb}
 use lib.IntN.{ℤ, pos, negℤ}
-use lib.Signed.{mag}
 use mir.Syntax.{w64}
-use mir.Val.{SFits, ofZ, hbits}
+use mir.Val.{SFits, ofZ}
 use Rattle.whole.specs.Ring.{Expr, var, lit, _⊕_, _⊗_}
 use Rattle.whole.specs.Flat.{need, gives, lt-gives}
 use Rattle.whole.specs.Tests.{eqZ, out, out-is, out-ok, lit-flag}
 use Rattle.sheet.specs.Crossing.{dot}
 use Rattle.sheet.specs.Figure.{Vec, _⇀_}
 use Rattle.kernel.specs.Pieces.{at, far, together-alike, together-opposed}
+use Rattle.kernel.proofs.Handed.{Fit}
 use Rattle.kernel.proofs.Eight.{dxE, dyE, fxE, fyE, say}
 use borrow.Author.Needs.{needs}
 use Rattle.kernel.proofs.oneline.together.Statement.{statement}
@@ -31,7 +31,7 @@ abbrev q : tie.Start → Vec
 q s = at (s .args .qx) (s .args .qy)
 
 -- a limit that the kind picks
-limit : (n : ℕ) → T (ltb n (2 ^ 63)) → {kind r x y u v : ℤ} → SFits w64 kind → mag r < 2 ^ hbits w64
+limit : (n : ℕ) → T (ltb n (2 ^ 63)) → {kind r x y u v : ℤ} → SFits w64 kind → Fit r
     → r ≡ cond (eqb (ofZ w64 kind) n) x y → x ≡ u → y ≡ v → out r ≡ cond (eqZ kind (pos n)) u v
 limit n t {r = r} f h e a b = out-ok r h ∙ e ∙ (λ i. cond (lit-flag n t f i) (a i) (b i))
 

@@ -11,7 +11,7 @@ mul-one-2 : tie.Need-mul-one-2
 mul-one-2 c = need (rows (c .pre)) (var 7 ⊗ var 5) tt
 
 sub-one : tie.Need-sub-one
-sub-one c = need (rows (c .pre)) (one) tt
+sub-one c = need (rows (c .pre)) one tt
 
 mul-two : tie.Need-mul-two
 mul-two c = need (rows (c .pre)) (var 1 ⊗ var 8) tt
@@ -20,7 +20,7 @@ mul-two-2 : tie.Need-mul-two-2
 mul-two-2 c = need (rows (c .pre)) (var 7 ⊗ var 2) tt
 
 sub-two : tie.Need-sub-two
-sub-two c = need (rows (c .pre)) (two) tt
+sub-two c = need (rows (c .pre)) two tt
 
 mul-three : tie.Need-mul-three
 mul-three c = need (rows (c .pre)) (var 1 ⊗ var 5) tt
@@ -29,7 +29,7 @@ mul-three-2 : tie.Need-mul-three-2
 mul-three-2 c = need (rows (c .pre)) (var 4 ⊗ var 2) tt
 
 sub-three : tie.Need-sub-three
-sub-three c = need (rows (c .pre)) (three) tt
+sub-three c = need (rows (c .pre)) three tt
 
 mul-result : tie.Need-mul-result
 mul-result c = need (rows (c .pre)) (var 0 ⊗ one) tt
@@ -44,7 +44,7 @@ mul-result-3 : tie.Need-mul-result-3
 mul-result-3 c = need (rows (c .pre)) (var 6 ⊗ three) tt
 
 add-result : tie.Need-add-result
-add-result c = need (rows (c .pre)) (detE) tt
+add-result c = need (rows (c .pre)) detE tt
 
 returns : tie.Need-returns
 returns c = gives (rows (c .pre)) detE tt

@@ -11,7 +11,10 @@ use Rattle.kernel.proofs.signs.order_points.Tie as tie
 
 refusal : (c : tie.After-or-else) → c .or-else .result ≡ orderRefusal (c .before .before .before .args .p) (c .before .before .before .args .q)
 unfolding orderRefusal
-refusal c = c .or-else .ensures ∙ ap₂ orElse (out-ok (c .before .before .check-point .result) (c .before .before .check-point .ok) ∙ c .before .before .check-point .ensures) (out-ok (c .before .check-point2 .result) (c .before .check-point2 .ok) ∙ c .before .check-point2 .ensures)
+refusal c =
+    let p = c .before .before .check-point in
+    let q = c .before .check-point2 in
+    c .or-else .ensures ∙ ap₂ orElse (out-ok (p .result) (p .ok) ∙ p .ensures) (out-ok (q .result) (q .ok) ∙ q .ensures)
 
 passed : (c : tie.Else1) → orderRefusal (c .before .before .before .before .args .p) (c .before .before .before .before .args .q) ≡ pos 0
 passed c = not-refused (c .before .or-else .result) (c .before .or-else .ok) (refusal (c .before)) (c .if1 .left)

@@ -11,7 +11,10 @@ use Rattle.kernel.proofs.signs.side_of.Tie as tie
 
 refusal : (c : tie.After-or-else) → c .or-else .result ≡ sideSignRefusal (c .before .before .before .args .o) (c .before .before .before .args .s)
 unfolding sideSignRefusal
-refusal c = c .or-else .ensures ∙ ap₂ orElse (out-ok (c .before .before .object-refusal .result) (c .before .before .object-refusal .ok) ∙ c .before .before .object-refusal .ensures .0) (out-ok (c .before .check-point .result) (c .before .check-point .ok) ∙ c .before .check-point .ensures)
+refusal c =
+    let o = c .before .before .object-refusal in
+    let s = c .before .check-point in
+    c .or-else .ensures ∙ ap₂ orElse (out-ok (o .result) (o .ok) ∙ o .ensures .0) (out-ok (s .result) (s .ok) ∙ s .ensures)
 
 passed : (c : tie.Else1) → sideSignRefusal (c .before .before .before .before .args .o) (c .before .before .before .before .args .s) ≡ pos 0
 passed c = not-refused (c .before .or-else .result) (c .before .or-else .ok) (refusal (c .before)) (c .if1 .left)

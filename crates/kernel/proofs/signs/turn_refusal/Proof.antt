@@ -29,15 +29,18 @@ or-else-requires-3 c κs = search needs
 returns : tie.Need-returns
 unfolding turnRefusal
 returns c =
+    let s = c .before .before .before .before .before .before .check-point in
+    let w = c .before .before .before .before .before .wide-refusal in
+    let sw = c .before .before .before .before .or-else in
+    let p = c .before .before .before .check-point2 in
+    let q = c .before .before .check-point3 in
+    let qsw = c .before .or-else2 in
     let late =
-    out-ok (c .before .before .before .before .or-else .result) (c .before .before .before .before .or-else .ok) ∙ c .before .before .before .before .or-else .ensures
-    ∙ ap₂ orElse (out-ok (c .before .before .before .before .before .before .check-point .result) (c .before .before .before .before .before .before .check-point .ok) ∙ c .before .before .before .before .before .before .check-point .ensures) (out-ok (c .before .before .before .before .before .wide-refusal .result) (c .before .before .before .before .before .wide-refusal .ok) ∙ c .before .before .before .before .before .wide-refusal .ensures)
+    out-ok (sw .result) (sw .ok) ∙ sw .ensures
+    ∙ ap₂ orElse (out-ok (s .result) (s .ok) ∙ s .ensures) (out-ok (w .result) (w .ok) ∙ w .ensures)
     in
-    let rest =
-    out-ok (c .before .or-else2 .result) (c .before .or-else2 .ok) ∙ c .before .or-else2 .ensures
-    ∙ ap₂ orElse (out-ok (c .before .before .check-point3 .result) (c .before .before .check-point3 .ok) ∙ c .before .before .check-point3 .ensures) late
-    in
-    out-ok (c .or-else3 .result) (c .or-else3 .ok) ∙ c .or-else3 .ensures ∙ ap₂ orElse (out-ok (c .before .before .before .check-point2 .result) (c .before .before .before .check-point2 .ok) ∙ c .before .before .before .check-point2 .ensures) rest
+    let rest = out-ok (qsw .result) (qsw .ok) ∙ qsw .ensures ∙ ap₂ orElse (out-ok (q .result) (q .ok) ∙ q .ensures) late in
+    out-ok (c .or-else3 .result) (c .or-else3 .ok) ∙ c .or-else3 .ensures ∙ ap₂ orElse (out-ok (p .result) (p .ok) ∙ p .ensures) rest
 
 pub turn-refusal-spec : {M : Type 1} → statement M
 turn-refusal-spec =

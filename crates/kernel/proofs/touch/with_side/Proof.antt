@@ -1,16 +1,19 @@
 use mathlib.Core.Path.{_≡_, sym, _∙_, ap, subst}
 use lib.IntN.{ℤ}
+use mir.Syntax.{w64}
+use mir.Val.{SFits}
 use Rattle.whole.specs.Flat.{need}
 use Rattle.whole.specs.Bound.{Within}
 use Rattle.whole.specs.Tests.{out, out-is, out-ok, eq-left}
 use Rattle.sheet.specs.declared.Object.{Object}
-use Rattle.sheet.specs.Figure.{outX, outY, sideOf, first, second}
+use Rattle.sheet.specs.Figure.{Side, outX, outY, sideOf, first, second}
 use Rattle.sheet.specs.RefusalLaws.{Proper}
 use Rattle.sheet.specs.Ends.{farEnd, reverse}
 use Rattle.sheet.specs.Crossing.{none}
 use Rattle.kernel.specs.Bounds.{Out}
 use Rattle.kernel.specs.Kinds.{lit-taken, accepted-pair}
 use Rattle.kernel.specs.Pieces.{object, endBy, sidesBy, out-within, with-segment, with-ray, with-side, with-line}
+use Rattle.kernel.proofs.Handed.{Fit}
 use Rattle.kernel.proofs.Eight.{dxE, dyE, say}
 use Rattle.kernel.proofs.Ahead.{place, pair, way, ahead}
 use borrow.Author.Needs.{needs}
@@ -24,21 +27,20 @@ abbrev start : tie.After-out-y → tie.Start
 start c = c .before .before .before
 
 -- the way out over side n, and over the other side
+over : (f : Side → ℤ) {n r : ℤ} → SFits w64 n → Fit r → r ≡ f (sideOf (out n)) → out r ≡ f (sideOf n)
+over f {r = r} n h e = out-ok r h ∙ e ∙ ap (λ (n : ℤ). f (sideOf n)) (out-is n)
+
 ox-is : (c : tie.After-out-x) → out (c .out-x .result) ≡ outX (sideOf (c .before .before .args .n))
-ox-is c = out-ok (c .out-x .result) (c .out-x .ok) ∙ c .out-x .ensures ∙ ap (λ (n : ℤ). outX (sideOf n)) (out-is (c .before .before .fits .n))
+ox-is c = over outX (c .before .before .fits .n) (c .out-x .ok) (c .out-x .ensures)
 
 oy-is : (c : tie.After-out-y) → out (c .out-y .result) ≡ outY (sideOf (start c .args .n))
-oy-is c = out-ok (c .out-y .result) (c .out-y .ok) ∙ c .out-y .ensures ∙ ap (λ (n : ℤ). outY (sideOf n)) (out-is (start c .fits .n))
+oy-is c = over outY (start c .fits .n) (c .out-y .ok) (c .out-y .ensures)
 
 ux-is : (c : tie.After-out-x2) → out (c .out-x2 .result) ≡ outX (sideOf (start (c .before .before) .args .px))
-ux-is c =
-    out-ok (c .out-x2 .result) (c .out-x2 .ok) ∙ c .out-x2 .ensures
-    ∙ ap (λ (n : ℤ). outX (sideOf n)) (out-is (start (c .before .before) .fits .px))
+ux-is c = over outX (start (c .before .before) .fits .px) (c .out-x2 .ok) (c .out-x2 .ensures)
 
 uy-is : (c : tie.After-out-y2) → out (c .out-y2 .result) ≡ outY (sideOf (start (c .before .before .before) .args .px))
-uy-is c =
-    out-ok (c .out-y2 .result) (c .out-y2 .ok) ∙ c .out-y2 .ensures
-    ∙ ap (λ (n : ℤ). outY (sideOf n)) (out-is (start (c .before .before .before) .fits .px))
+uy-is c = over outY (start (c .before .before .before) .fits .px) (c .out-y2 .ok) (c .out-y2 .ensures)
 
 both : {x y x′ y′ : ℤ} → x ≡ x′ → y ≡ y′ → Out x′ y′ → Out x y
 both e f h = record { box = subst (Within 1) (sym e) (h .box); boy = subst (Within 1) (sym f) (h .boy) }
