@@ -10,7 +10,7 @@ use Rattle.whole.specs.Poly.{first}
 use Rattle.whole.specs.Ring.{var}
 use Rattle.whole.specs.Flat.{none, _also_, held, back}
 use Rattle.whole.specs.Bound.{fits64}
-use Rattle.whole.specs.Tests.{out, out-ok}
+use Rattle.whole.specs.Tests.{out}
 use Rattle.sheet.specs.declared.Point.{Point}
 use Rattle.sheet.specs.PointsLaws.{Sizes}
 use Rattle.kernel.specs.Bounds.{Coordinate}
@@ -49,4 +49,4 @@ along-out c d =
     (sgn (back (c .bn) tt i *ℤ w2 i -ℤ back (d .bn) tt i *ℤ w i))
 
 pub lead-is : {r a b u v : ℤ} → handed.Fit r → r ≡ first (sgn a) (sgn b) → a ≡ u → b ≡ v → out r ≡ first (sgn u) (sgn v)
-lead-is {r} h e a b = out-ok r h ∙ e ∙ ap₂ (λ (x y : ℤ). first (sgn x) (sgn y)) a b
+lead-is h e a b = handed.gave h e ∙ ap₂ (λ (x y : ℤ). first (sgn x) (sgn y)) a b

@@ -1,9 +1,11 @@
--- A struct that is handed on number by number is the struct: each number comes out of a local as it went in. To cite:
+-- A number comes out of a local as it went in: so what a call gave is read, and a struct that is handed on number by number is the
+-- struct. To cite:
 --   Fit                       what is known of such a number: of a call's result it is `.ok`
+--   gave                      what a call gave, as it is read: `gave (c .f .ok) (c .f .ensures)`
 --   objectOut, pointOut       the struct of numbers that come out of locals
 --   object, point             from what is known of each number: `object o (s .fits .kind .sfits) (s .fits .px .sfits) ..`
 --   object-told, point-told   from what `struct-told` says of all five: `object-told o (c .struct-told .given)`
-use mathlib.Core.Path.{_≡_}
+use mathlib.Core.Path.{_≡_, _∙_}
 use Prim.Native.Nat.{_<_, _^_}
 use lib.IntN.{ℤ}
 use lib.Signed.{mag}
@@ -15,6 +17,9 @@ use Rattle.sheet.specs.declared.Point.{Point}
 
 abbrev pub Fit : ℤ → Type 0
 Fit z = mag z < 2 ^ hbits w64
+
+pub gave : {r z : ℤ} → Fit r → r ≡ z → out r ≡ z
+gave {r} h e = out-ok r h ∙ e
 
 abbrev pub objectOut : Object → Object
 objectOut o = record { kind = out (o .kind); px = out (o .px); py = out (o .py); qx = out (o .qx); qy = out (o .qy) }

@@ -7,10 +7,11 @@ use Rattle.whole.specs.Divisor.{gcdOf}
 use Rattle.whole.specs.Ring.{var}
 use Rattle.whole.specs.Flat.{none, _also_, held, back}
 use Rattle.whole.specs.Bound.{Within}
-use Rattle.whole.specs.Tests.{out, out-is, out-ok}
+use Rattle.whole.specs.Tests.{out, out-is}
 use Rattle.sheet.specs.Points.{divided}
 use Rattle.kernel.specs.Bounds.{Part}
 use Rattle.kernel.specs.Forms.{divisor-bounds}
+use Rattle.kernel.proofs.Handed.{gave}
 use borrow.Author.Needs.{needs}
 use Rattle.kernel.proofs.divide.divide.Statement.{statement}
 use Rattle.kernel.proofs.divide.divide.Tie as tie
@@ -61,11 +62,11 @@ returns c =
     let d = c .before .before .before .before .before in
     let h = d .before .pre in
     λ i. record {
-      mx = (out-ok (mx .result) (mx .ok) ∙ mx .ensures ∙ part-gives d (h .bmx)) i;
-      nx = (out-ok (nx .result) (nx .ok) ∙ nx .ensures ∙ part-gives d (h .bnx)) i;
-      my = (out-ok (my .result) (my .ok) ∙ my .ensures ∙ part-gives d (h .bmy)) i;
-      ny = (out-ok (ny .result) (ny .ok) ∙ ny .ensures ∙ part-gives d (h .bny)) i;
-      w = (out-ok (w .result) (w .ok) ∙ w .ensures ∙ part-gives d (h .bw)) i;
+      mx = (gave (mx .ok) (mx .ensures) ∙ part-gives d (h .bmx)) i;
+      nx = (gave (nx .ok) (nx .ensures) ∙ part-gives d (h .bnx)) i;
+      my = (gave (my .ok) (my .ensures) ∙ part-gives d (h .bmy)) i;
+      ny = (gave (ny .ok) (ny .ensures) ∙ part-gives d (h .bny)) i;
+      w = (gave (w .ok) (w .ensures) ∙ part-gives d (h .bw)) i;
     }
 
 pub divide-spec : {M : Type 1} → statement M

@@ -6,9 +6,10 @@ use Rattle.whole.specs.Sign.{sgn}
 use Rattle.whole.specs.Ring.{var, lit, _⊖_, _⊗_}
 use Rattle.whole.specs.Flat.{All, none, _also_, need, gives, held}
 use Rattle.whole.specs.Bound.{w-is, w-lit, w-pos, w-sgn, w-size}
-use Rattle.whole.specs.Tests.{out, out-is, out-ok}
+use Rattle.whole.specs.Tests.{out, out-is}
 use Rattle.sheet.specs.Points.{size, divided}
 use Rattle.kernel.specs.Forms.{steep-is}
+use Rattle.kernel.proofs.Handed.{gave}
 use borrow.Author.Needs.{needs}
 use Rattle.kernel.proofs.far.steep_end.Statement.{statement}
 use Rattle.kernel.proofs.far.steep_end.Tie as tie
@@ -21,7 +22,7 @@ turned : (c : tie.After-sign) → c .sign .result ≡ sgn (c .before .before .ar
 turned c = c .sign .ensures ∙ ap sgn (out-is (c .before .before .fits .dy))
 
 wide : (c : tie.After-sign) → out (c .before .abs .result) ≡ size (c .before .before .args .dy)
-wide c = out-ok (c .before .abs .result) (c .before .abs .ok) ∙ c .before .abs .ensures ∙ ap size (out-is (c .before .before .fits .dy))
+wide c = gave (c .before .abs .ok) (c .before .abs .ensures) ∙ ap size (out-is (c .before .before .fits .dy))
 
 abs-requires : tie.Need-abs-requires
 abs-requires c κs = held (c .pre .0 .bdy also none) (var 0) tt

@@ -4,6 +4,7 @@ use Rattle.whole.specs.SignLaws.{sgn-zero}
 use Rattle.whole.specs.Tests.{out-is, out-ok, eq-left}
 use Rattle.whole.specs.PolyLaws.{first-ne}
 use Rattle.kernel.specs.Kinds.{lit-taken}
+use Rattle.kernel.proofs.Handed.{gave}
 use borrow.Author.Needs.{needs}
 use Rattle.kernel.proofs.lead.lead.Statement.{statement}
 use Rattle.kernel.proofs.lead.lead.Tie as tie
@@ -24,8 +25,7 @@ sign-requires-2 c κs = search needs
 returns-2 : tie.Need-returns-2
 returns-2 c =
     let s = c .before .before in
-    out-ok (c .sign2 .result) (c .sign2 .ok)
-    ∙ c .sign2 .ensures ∙ ap sgn (out-is (s .fits .a))
+    gave (c .sign2 .ok) (c .sign2 .ensures) ∙ ap sgn (out-is (s .fits .a))
     ∙ sym (first-ne (s .args .a) (sgn (s .args .b)) (eq-left (c .before .if1 .left)))
 
 pub lead-spec : {M : Type 1} → statement M

@@ -3,8 +3,9 @@ use mathlib.Core.Bool.{Bool, cond}
 use mathlib.Core.List.{List}
 use lib.IntN.{ℤ}
 use lib.Signed.{ltZ}
-use Rattle.whole.specs.Tests.{out, out-is, out-ok, lt-flag}
+use Rattle.whole.specs.Tests.{out, out-is, lt-flag}
 use Rattle.kernel.specs.Pieces.{at, betweenBy}
+use Rattle.kernel.proofs.Handed.{gave}
 use Rattle.kernel.proofs.Eight.{say}
 use borrow.Author.Needs.{needs}
 use Rattle.kernel.proofs.oneline.overlap.Statement.{statement}
@@ -15,7 +16,7 @@ stop : (c : tie.After-pick) →
     out (c .pick .result) ≡ cond (ltZ (c .before .args .hi) (c .before .args .high)) (c .before .args .hi) (c .before .args .high)
 stop c =
     let s = c .before in
-    out-ok (c .pick .result) (c .pick .ok) ∙ c .pick .ensures
+    gave (c .pick .ok) (c .pick .ensures)
     ∙ (λ i. cond (ltZ (out-is (s .fits .hi) i) (out-is (s .fits .high) i)) (out-is (s .fits .hi) i) (out-is (s .fits .high) i))
 
 -- what they share where the second one's start is the later, or not

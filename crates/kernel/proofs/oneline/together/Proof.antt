@@ -7,11 +7,11 @@ use mir.Syntax.{w64}
 use mir.Val.{SFits, ofZ}
 use Rattle.whole.specs.Ring.{Expr, var, lit, _⊕_, _⊗_}
 use Rattle.whole.specs.Flat.{need, gives, lt-gives}
-use Rattle.whole.specs.Tests.{eqZ, out, out-is, out-ok, lit-flag}
+use Rattle.whole.specs.Tests.{eqZ, out, out-is, lit-flag}
 use Rattle.sheet.specs.Crossing.{dot}
 use Rattle.sheet.specs.Figure.{Vec, _⇀_}
 use Rattle.kernel.specs.Pieces.{at, far, together-alike, together-opposed}
-use Rattle.kernel.proofs.Handed.{Fit}
+use Rattle.kernel.proofs.Handed.{Fit, gave}
 use Rattle.kernel.proofs.Eight.{dxE, dyE, fxE, fyE, say}
 use borrow.Author.Needs.{needs}
 use Rattle.kernel.proofs.oneline.together.Statement.{statement}
@@ -33,7 +33,7 @@ q s = at (s .args .qx) (s .args .qy)
 -- a limit that the kind picks
 limit : (n : ℕ) → T (ltb n (2 ^ 63)) → {kind r x y u v : ℤ} → SFits w64 kind → Fit r
     → r ≡ cond (eqb (ofZ w64 kind) n) x y → x ≡ u → y ≡ v → out r ≡ cond (eqZ kind (pos n)) u v
-limit n t {r = r} f h e a b = out-ok r h ∙ e ∙ (λ i. cond (lit-flag n t f i) (a i) (b i))
+limit n t f h e a b = gave h e ∙ (λ i. cond (lit-flag n t f i) (a i) (b i))
 
 -- where the first one starts and stops
 lo : (c : tie.After-pick) →

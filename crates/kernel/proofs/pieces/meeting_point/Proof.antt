@@ -7,12 +7,13 @@ use Rattle.whole.specs.SignLaws.{sgn-mul-self, size-above}
 use Rattle.whole.specs.Ring.{Expr, var, _⊖_, _⊗_, ev}
 use Rattle.whole.specs.Flat.{mach, need, gives, small, held}
 use Rattle.whole.specs.Bound.{w-is, w-lit, w-pos, w-mul, w-sgn, w-size}
-use Rattle.whole.specs.Tests.{out, out-ok}
+use Rattle.whole.specs.Tests.{out}
 use Rattle.sheet.specs.Figure.{_⇀_}
 use Rattle.sheet.specs.Points.{size, divided}
 use Rattle.sheet.specs.EndsLaws.{moment-is}
 use Rattle.sheet.specs.Crossing.{cross}
 use Rattle.kernel.specs.Pieces.{at}
+use Rattle.kernel.proofs.Handed.{gave}
 use Rattle.kernel.proofs.Eight.{dxE, dyE, fxE, fyE, acrossE}
 use Rattle.kernel.proofs.pieces.meeting_point.Statement.{statement}
 use Rattle.kernel.proofs.pieces.meeting_point.Tie as tie
@@ -39,18 +40,18 @@ not-parallel s e = s .pre .apart (sym (gives (s .pre .near .near) acrossE tt) �
 x-is : (c : tie.After-turned) → out (c .turned .result) ≡ sgn (ev (ρ (c .before)) acrossE) *ℤ ev (ρ (c .before)) overE
 x-is c =
     let b = c .before .pre .near .near in
-    out-ok (c .turned .result) (c .turned .ok) ∙ c .turned .ensures ∙ (λ i. sgn (gives b acrossE tt i) *ℤ gives b overE tt i)
+    gave (c .turned .ok) (c .turned .ensures) ∙ (λ i. sgn (gives b acrossE tt i) *ℤ gives b overE tt i)
 
 y-is : (c : tie.After-turned2) → out (c .turned2 .result) ≡ sgn (ev (ρ (c .before .before)) acrossE) *ℤ ev (ρ (c .before .before)) upE
 y-is c =
     let b = c .before .before .pre .near .near in
-    out-ok (c .turned2 .result) (c .turned2 .ok) ∙ c .turned2 .ensures ∙ (λ i. sgn (gives b acrossE tt i) *ℤ gives b upE tt i)
+    gave (c .turned2 .ok) (c .turned2 .ensures) ∙ (λ i. sgn (gives b acrossE tt i) *ℤ gives b upE tt i)
 
 w-is-size : (c : tie.After-turned3) → out (c .turned3 .result) ≡ size (ev (ρ (c .before .before .before)) acrossE)
 w-is-size c =
     let s = c .before .before .before in
     let b = s .pre .near .near in
-    out-ok (c .turned3 .result) (c .turned3 .ok) ∙ c .turned3 .ensures
+    gave (c .turned3 .ok) (c .turned3 .ensures)
     ∙ (λ i. sgn (gives b acrossE tt i) *ℤ gives b acrossE tt i) ∙ sgn-mul-self (ev (ρ s) acrossE)
 
 sub-dx : tie.Need-sub-dx

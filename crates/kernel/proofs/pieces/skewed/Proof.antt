@@ -8,10 +8,11 @@ use Rattle.whole.specs.SignLaws.{sgn-mul-self}
 use Rattle.whole.specs.Ring.{Expr, _⊖_, _⊗_, ev}
 use Rattle.whole.specs.Flat.{need, gives, small, held}
 use Rattle.whole.specs.Bound.{w-is, w-lit, w-pos, fits64}
-use Rattle.whole.specs.Tests.{out, out-is, out-ok}
+use Rattle.whole.specs.Tests.{out, out-is}
 use Rattle.sheet.specs.Points.{size, divided}
 use Rattle.sheet.specs.Crossing.{Piece, none, point, meetingPoint, reaches}
 use Rattle.kernel.specs.Pieces.{at, piece, reachesBy, reaches-is}
+use Rattle.kernel.proofs.Handed.{gave}
 use Rattle.kernel.proofs.Eight.{dxE, dyE, fxE, fyE, exE, eyE, acrossE, say, apart-out, piece-out}
 use borrow.Author.Needs.{needs}
 use Rattle.kernel.proofs.pieces.skewed.Statement.{statement}
@@ -52,13 +53,13 @@ not-parallel s e = s .pre .0 .apart (sym (across-is s) ∙ e)
 h-is : (c : tie.After-turned) → out (c .turned .result) ≡ sgn (ev (ρ (c .before)) acrossE) *ℤ ev (ρ (c .before)) oneE
 h-is c =
     let s = c .before in
-    out-ok (c .turned .result) (c .turned .ok) ∙ c .turned .ensures
+    gave (c .turned .ok) (c .turned .ensures)
     ∙ (λ i. sgn (across-is s i) *ℤ gives (s .pre .0 .near .near) oneE tt i)
 
 w-is-size : (c : tie.After-turned2) → out (c .turned2 .result) ≡ size (ev (ρ (c .before .before)) acrossE)
 w-is-size c =
     let s = c .before .before in
-    out-ok (c .turned2 .result) (c .turned2 .ok) ∙ c .turned2 .ensures
+    gave (c .turned2 .ok) (c .turned2 .ensures)
     ∙ (λ i. sgn (across-is s i) *ℤ across-is s i) ∙ sgn-mul-self (ev (ρ s) acrossE)
 
 abbrev start : tie.After-reaches → tie.Start
@@ -67,7 +68,7 @@ start c = c .before .before .before
 g-is : (c : tie.After-turned3) → let s = start (c .before .before) in out (c .turned3 .result) ≡ sgn (ev (ρ s) acrossE) *ℤ ev (ρ s) twoE
 g-is c =
     let s = start (c .before .before) in
-    out-ok (c .turned3 .result) (c .turned3 .ok) ∙ c .turned3 .ensures
+    gave (c .turned3 .ok) (c .turned3 .ensures)
     ∙ (λ i. sgn (across-is s i) *ℤ gives (s .pre .0 .near .near) twoE tt i)
 
 -- the code's two tests are the paper's

@@ -1,8 +1,8 @@
 use mathlib.Core.Path.{sym, _∙_, ap₂}
 use Rattle.whole.specs.Poly.{first}
 use Rattle.whole.specs.PolyLaws.{first-sgn}
-use Rattle.whole.specs.Tests.{out-ok}
 use Rattle.sheet.specs.Expansions.{order-is}
+use Rattle.kernel.proofs.Handed.{gave}
 use Rattle.kernel.proofs.Coordinates.{lead-is}
 use borrow.Author.Needs.{needs}
 use Rattle.kernel.proofs.signs.order_of.Statement.{statement}
@@ -20,8 +20,8 @@ lead-requires c κs = search needs
 returns : tie.Need-returns
 returns c =
     let s = c .before .before .before in
-    let x = out-ok (c .before .before .order-x .result) (c .before .before .order-x .ok) ∙ c .before .before .order-x .ensures in
-    let y = out-ok (c .before .order-y .result) (c .before .order-y .ok) ∙ c .before .order-y .ensures in
+    let x = gave (c .before .before .order-x .ok) (c .before .before .order-x .ensures) in
+    let y = gave (c .before .order-y .ok) (c .before .order-y .ensures) in
     lead-is (c .lead .ok) (c .lead .ensures) x y
     ∙ ap₂ first (first-sgn _ _) (first-sgn _ _)
     ∙ sym (order-is (s .args .p) (s .args .q))

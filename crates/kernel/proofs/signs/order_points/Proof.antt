@@ -1,10 +1,11 @@
 use mathlib.Core.Path.{_≡_, sym, _∙_, ap₂}
 use mathlib.Core.List.{[], _∷_}
 use lib.IntN.{pos}
-use Rattle.whole.specs.Tests.{out-ok, fits-ok}
+use Rattle.whole.specs.Tests.{fits-ok}
 use Rattle.sheet.specs.Signs.{orElse, orderRefusal}
 use Rattle.sheet.specs.AnswersLaws.{says-refused, accepted}
 use Rattle.kernel.specs.Accepts.{not-refused, order-accepts}
+use Rattle.kernel.proofs.Handed.{gave}
 use borrow.Author.Needs.{needs}
 use Rattle.kernel.proofs.signs.order_points.Statement.{statement}
 use Rattle.kernel.proofs.signs.order_points.Tie as tie
@@ -14,7 +15,7 @@ unfolding orderRefusal
 refusal c =
     let p = c .before .before .check-point in
     let q = c .before .check-point2 in
-    c .or-else .ensures ∙ ap₂ orElse (out-ok (p .result) (p .ok) ∙ p .ensures) (out-ok (q .result) (q .ok) ∙ q .ensures)
+    c .or-else .ensures ∙ ap₂ orElse (gave (p .ok) (p .ensures)) (gave (q .ok) (q .ensures))
 
 passed : (c : tie.Else1) → orderRefusal (c .before .before .before .before .args .p) (c .before .before .before .before .args .q) ≡ pos 0
 passed c = not-refused (c .before .or-else .result) (c .before .or-else .ok) (refusal (c .before)) (c .if1 .left)
@@ -36,7 +37,7 @@ order-of-requires c κs = let s = c .before .before .before .before in order-acc
 
 returns-2 : tie.Need-returns-2
 returns-2 c =
-    (λ i. pos 0 ∷ (out-ok (c .order-of .result) (c .order-of .ok) ∙ c .order-of .ensures) i ∷ []) ∙ sym (accepted _ (passed (c .before)))
+    (λ i. pos 0 ∷ (gave (c .order-of .ok) (c .order-of .ensures)) i ∷ []) ∙ sym (accepted _ (passed (c .before)))
 
 pub order-points-spec : {M : Type 1} → statement M
 order-points-spec =

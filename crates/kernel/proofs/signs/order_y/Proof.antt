@@ -1,5 +1,5 @@
 use mathlib.Core.Path.{_∙_}
-use Rattle.whole.specs.Tests.{out-ok}
+use Rattle.kernel.proofs.Handed.{gave}
 use Rattle.kernel.proofs.Coordinates.{y-of, coordinate-out, along-out}
 use Rattle.kernel.proofs.signs.order_y.Statement.{statement}
 use Rattle.kernel.proofs.signs.order_y.Tie as tie
@@ -12,7 +12,7 @@ along-requires c κs =
 returns : tie.Need-returns
 returns c =
     let h = c .before .before .before .before .before .before .before .pre in
-    out-ok (c .along .result) (c .along .ok) ∙ c .along .ensures ∙ along-out (y-of (h .0)) (y-of (h .1))
+    gave (c .along .ok) (c .along .ensures) ∙ along-out (y-of (h .0)) (y-of (h .1))
 
 pub order-y-spec : {M : Type 1} → statement M
 order-y-spec = tie.close (tie.spec along-requires returns)

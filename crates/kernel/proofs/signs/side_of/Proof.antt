@@ -1,10 +1,11 @@
 use mathlib.Core.Path.{_≡_, sym, _∙_, ap₂}
 use mathlib.Core.List.{[], _∷_}
 use lib.IntN.{pos}
-use Rattle.whole.specs.Tests.{out-ok, fits-ok}
+use Rattle.whole.specs.Tests.{fits-ok}
 use Rattle.sheet.specs.Signs.{orElse, sideSignRefusal}
 use Rattle.sheet.specs.AnswersLaws.{says-refused, accepted}
 use Rattle.kernel.specs.Accepts.{not-refused, side-accepts}
+use Rattle.kernel.proofs.Handed.{gave}
 use borrow.Author.Needs.{needs}
 use Rattle.kernel.proofs.signs.side_of.Statement.{statement}
 use Rattle.kernel.proofs.signs.side_of.Tie as tie
@@ -14,7 +15,7 @@ unfolding sideSignRefusal
 refusal c =
     let o = c .before .before .object-refusal in
     let s = c .before .check-point in
-    c .or-else .ensures ∙ ap₂ orElse (out-ok (o .result) (o .ok) ∙ o .ensures .0) (out-ok (s .result) (s .ok) ∙ s .ensures)
+    c .or-else .ensures ∙ ap₂ orElse (gave (o .ok) (o .ensures .0)) (gave (s .ok) (s .ensures))
 
 passed : (c : tie.Else1) → sideSignRefusal (c .before .before .before .before .args .o) (c .before .before .before .before .args .s) ≡ pos 0
 passed c = not-refused (c .before .or-else .result) (c .before .or-else .ok) (refusal (c .before)) (c .if1 .left)
@@ -36,7 +37,7 @@ side-sign-requires c κs = let s = c .before .before .before .before in side-acc
 
 returns-2 : tie.Need-returns-2
 returns-2 c =
-    (λ i. pos 0 ∷ (out-ok (c .side-sign .result) (c .side-sign .ok) ∙ c .side-sign .ensures) i ∷ []) ∙ sym (accepted _ (passed (c .before)))
+    (λ i. pos 0 ∷ (gave (c .side-sign .ok) (c .side-sign .ensures)) i ∷ []) ∙ sym (accepted _ (passed (c .before)))
 
 pub side-of-spec : {M : Type 1} → statement M
 side-of-spec =

@@ -8,6 +8,7 @@ use Rattle.sheet.specs.Signs.{sideOfFigure}
 use Rattle.sheet.specs.Expansions.{side-of-figure, pair-side-is}
 use Rattle.kernel.specs.Forms.{pairSide}
 use Rattle.kernel.specs.Kinds.{lit-taken, accepted-pair, side-pair}
+use Rattle.kernel.proofs.Handed.{gave}
 use Rattle.kernel.proofs.Ahead.{place, pair}
 use Rattle.kernel.proofs.Coordinates.{x-of, y-of, point-out, coordinate-out}
 use Rattle.kernel.proofs.signs.side_sign.Statement.{statement}
@@ -25,7 +26,7 @@ returns c =
     let t = c .before .before .before .before .before .before .before .before .struct-told .given in
     let px = out-ok (o .px) (t .1 .0 .1) in
     let four = lit-taken 4 tt (fits-ok (o .kind) (t .0 .1)) (c .before .before .before .before .before .before .before .if1 .taken) in
-    out-ok (c .frame-side .result) (c .frame-side .ok) ∙ c .frame-side .ensures
+    gave (c .frame-side .ok) (c .frame-side .ensures)
     ∙ (λ i. sideOfFigure (side (sideOf (px i))) (point-out (s .pre .1) i))
     ∙ sym (side-of-figure o (s .args .s) (kind-side o four))
 
@@ -47,7 +48,7 @@ returns-2 c =
     let h = accepted-pair o (s .pre .0) other in
     let p = place (h .small-p) in
     let q = place (h .small-q) in
-    out-ok (c .pair-side .result) (c .pair-side .ok) ∙ c .pair-side .ensures
+    gave (c .pair-side .ok) (c .pair-side .ensures)
     ∙ (λ i. let t = point-out (s .pre .1) i in pairSide (p i .x) (p i .y) (q i .x) (q i .y) (t .mx) (t .nx) (t .my) (t .ny) (t .w))
     ∙ sym (side-pair o (s .pre .0) other (s .args .s) ∙ pair-side-is (first o) (second o) (s .args .s))
 

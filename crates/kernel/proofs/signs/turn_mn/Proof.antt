@@ -1,5 +1,5 @@
 use mathlib.Core.Path.{_∙_}
-use Rattle.whole.specs.Tests.{out-ok}
+use Rattle.kernel.proofs.Handed.{gave}
 use Rattle.kernel.proofs.Det.{mn, row-out, det-out}
 use Rattle.kernel.proofs.signs.turn_mn.Statement.{statement}
 use Rattle.kernel.proofs.signs.turn_mn.Tie as tie
@@ -12,7 +12,7 @@ det-of-requires c κs =
 returns : tie.Need-returns
 returns c =
     let h = c .before .before .before .before .before .before .before .before .before .before .pre in
-    out-ok (c .det-of .result) (c .det-of .ok) ∙ c .det-of .ensures ∙ det-out (mn (h .0)) (mn (h .1)) (mn (h .2))
+    gave (c .det-of .ok) (c .det-of .ensures) ∙ det-out (mn (h .0)) (mn (h .1)) (mn (h .2))
 
 pub turn-mn-spec : {M : Type 1} → statement M
 turn-mn-spec = tie.close (tie.spec det-of-requires returns)

@@ -7,9 +7,9 @@ use Rattle.whole.specs.PolyLaws.{first-sgn}
 use Rattle.whole.specs.Ring.{var, _⊕_}
 use Rattle.whole.specs.Flat.{All, none, _also_, need, gives}
 use Rattle.whole.specs.Bound.{w-is}
-use Rattle.whole.specs.Tests.{out-ok}
 use Rattle.sheet.specs.Expansions.{turnC, turn-is}
 use Rattle.kernel.specs.Forms.{mixed-is}
+use Rattle.kernel.proofs.Handed.{gave}
 use Rattle.kernel.proofs.Det.{mn, nm, det-within}
 use Rattle.kernel.proofs.Coordinates.{lead-is}
 use borrow.Author.Needs.{needs}
@@ -49,12 +49,12 @@ returns : tie.Need-returns
 returns c =
     let t = c .before .before .before in
     let s = t .before .before .before in
-    let a = out-ok (t .before .before .turn-a .result) (t .before .before .turn-a .ok) ∙ t .before .before .turn-a .ensures in
+    let a = gave (t .before .before .turn-a .ok) (t .before .before .turn-a .ensures) in
     let b =
     gives (parts t) (var 0 ⊕ var 1) tt ∙ ap₂ _+ℤ_ (t .before .turn-mn .ensures) (t .turn-nm .ensures)
     ∙ mixed-is (s .args .p) (s .args .q) (s .args .s)
     in
-    let e = out-ok (c .before .before .turn-c .result) (c .before .before .turn-c .ok) ∙ c .before .before .turn-c .ensures in
+    let e = gave (c .before .before .turn-c .ok) (c .before .before .turn-c .ensures) in
     lead-is (c .lead2 .ok) (c .lead2 .ensures) (lead-is (c .before .lead .ok) (c .before .lead .ensures) a b) e
     ∙ ap (λ (x : ℤ). first x (sgn (turnC (s .args .p) (s .args .q) (s .args .s)))) (first-sgn _ _)
     ∙ sym (turn-is (s .args .p) (s .args .q) (s .args .s))

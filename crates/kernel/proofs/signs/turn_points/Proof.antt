@@ -1,10 +1,11 @@
 use mathlib.Core.Path.{_≡_, sym, _∙_}
 use mathlib.Core.List.{[], _∷_}
 use lib.IntN.{pos}
-use Rattle.whole.specs.Tests.{out-ok, fits-ok}
+use Rattle.whole.specs.Tests.{fits-ok}
 use Rattle.sheet.specs.Signs.{turnRefusal}
 use Rattle.sheet.specs.AnswersLaws.{says-refused, accepted}
 use Rattle.kernel.specs.Accepts.{not-refused, turn-accepts}
+use Rattle.kernel.proofs.Handed.{gave}
 use borrow.Author.Needs.{needs}
 use Rattle.kernel.proofs.signs.turn_points.Statement.{statement}
 use Rattle.kernel.proofs.signs.turn_points.Tie as tie
@@ -23,7 +24,7 @@ turn-of-requires c κs = let s = c .before .before in turn-accepts (s .args .p) 
 
 returns-2 : tie.Need-returns-2
 returns-2 c =
-    (λ i. pos 0 ∷ (out-ok (c .turn-of .result) (c .turn-of .ok) ∙ c .turn-of .ensures) i ∷ []) ∙ sym (accepted _ (passed (c .before)))
+    (λ i. pos 0 ∷ (gave (c .turn-of .ok) (c .turn-of .ensures)) i ∷ []) ∙ sym (accepted _ (passed (c .before)))
 
 pub turn-points-spec : {M : Type 1} → statement M
 turn-points-spec = tie.close (tie.spec turn-refusal-requires returns turn-of-requires returns-2)

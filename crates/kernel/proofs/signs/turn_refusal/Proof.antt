@@ -1,6 +1,6 @@
 use mathlib.Core.Path.{_∙_, ap₂}
-use Rattle.whole.specs.Tests.{out-ok}
 use Rattle.sheet.specs.Signs.{orElse, turnRefusal}
+use Rattle.kernel.proofs.Handed.{gave}
 use borrow.Author.Needs.{needs}
 use Rattle.kernel.proofs.signs.turn_refusal.Statement.{statement}
 use Rattle.kernel.proofs.signs.turn_refusal.Tie as tie
@@ -36,11 +36,11 @@ returns c =
     let q = c .before .before .check-point3 in
     let qsw = c .before .or-else2 in
     let late =
-    out-ok (sw .result) (sw .ok) ∙ sw .ensures
-    ∙ ap₂ orElse (out-ok (s .result) (s .ok) ∙ s .ensures) (out-ok (w .result) (w .ok) ∙ w .ensures)
+    gave (sw .ok) (sw .ensures)
+    ∙ ap₂ orElse (gave (s .ok) (s .ensures)) (gave (w .ok) (w .ensures))
     in
-    let rest = out-ok (qsw .result) (qsw .ok) ∙ qsw .ensures ∙ ap₂ orElse (out-ok (q .result) (q .ok) ∙ q .ensures) late in
-    out-ok (c .or-else3 .result) (c .or-else3 .ok) ∙ c .or-else3 .ensures ∙ ap₂ orElse (out-ok (p .result) (p .ok) ∙ p .ensures) rest
+    let rest = gave (qsw .ok) (qsw .ensures) ∙ ap₂ orElse (gave (q .ok) (q .ensures)) late in
+    gave (c .or-else3 .ok) (c .or-else3 .ensures) ∙ ap₂ orElse (gave (p .ok) (p .ensures)) rest
 
 pub turn-refusal-spec : {M : Type 1} → statement M
 turn-refusal-spec =

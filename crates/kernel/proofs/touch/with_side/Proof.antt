@@ -4,7 +4,7 @@ use mir.Syntax.{w64}
 use mir.Val.{SFits}
 use Rattle.whole.specs.Flat.{need}
 use Rattle.whole.specs.Bound.{Within}
-use Rattle.whole.specs.Tests.{out, out-is, out-ok, eq-left}
+use Rattle.whole.specs.Tests.{out, out-is, eq-left}
 use Rattle.sheet.specs.declared.Object.{Object}
 use Rattle.sheet.specs.Figure.{Side, outX, outY, sideOf, first, second}
 use Rattle.sheet.specs.RefusalLaws.{Proper}
@@ -13,7 +13,7 @@ use Rattle.sheet.specs.Crossing.{none}
 use Rattle.kernel.specs.Bounds.{Out}
 use Rattle.kernel.specs.Kinds.{lit-taken, accepted-pair}
 use Rattle.kernel.specs.Pieces.{object, endBy, sidesBy, out-within, with-segment, with-ray, with-side, with-line}
-use Rattle.kernel.proofs.Handed.{Fit}
+use Rattle.kernel.proofs.Handed.{Fit, gave}
 use Rattle.kernel.proofs.Eight.{dxE, dyE, say}
 use Rattle.kernel.proofs.Ahead.{place, pair, way, ahead}
 use borrow.Author.Needs.{needs}
@@ -28,7 +28,7 @@ start c = c .before .before .before
 
 -- the way out over side n, and over the other side
 over : (f : Side → ℤ) {n r : ℤ} → SFits w64 n → Fit r → r ≡ f (sideOf (out n)) → out r ≡ f (sideOf n)
-over f {r = r} n h e = out-ok r h ∙ e ∙ ap (λ (n : ℤ). f (sideOf n)) (out-is n)
+over f n h e = gave h e ∙ ap (λ (n : ℤ). f (sideOf n)) (out-is n)
 
 ox-is : (c : tie.After-out-x) → out (c .out-x .result) ≡ outX (sideOf (c .before .before .args .n))
 ox-is c = over outX (c .before .before .fits .n) (c .out-x .ok) (c .out-x .ensures)
