@@ -3,19 +3,24 @@
 --   dxE, dyE, fxE, fyE, exE, eyE, acrossE   the differences and the cross product, as the code writes them
 --   near-out, apart-out     what an inner function asks, of the numbers as they come out of locals
 --   piece-out               the piece of numbers out of locals
+--   turned-is, turned-size  what `turned` gives, by numbers equal to those that it was given; of a number with itself
 --   say                     what an accepted crossing says
 use mathlib.Core.Path.{_≡_, sym, _∙_}
 use mathlib.Core.List.{List, _∷_}
 use lib.IntN.{ℤ, pos, _-ℤ_, _*ℤ_}
 use mir.Syntax.{w64}
 use mir.Val.{SFits}
+use Rattle.whole.specs.Sign.{sgn}
+use Rattle.whole.specs.SignLaws.{sgn-mul-self}
 use Rattle.whole.specs.Ring.{Expr, var, _⊖_, _⊗_}
 use Rattle.whole.specs.Flat.{none, _also_, gives, held}
 use Rattle.whole.specs.Tests.{out, out-is}
+use Rattle.sheet.specs.Points.{size}
 use Rattle.sheet.specs.Crossing.{Meeting}
 use Rattle.sheet.specs.Answers.{meetingNumbers}
 use Rattle.kernel.specs.Bounds.{Near, Apart}
 use Rattle.kernel.specs.Pieces.{piece}
+use Rattle.kernel.proofs.Handed.{Fit, gave}
 
 abbrev pub dxE : Expr
 dxE = var 2 ⊖ var 0
@@ -66,3 +71,9 @@ pub piece-out :
     {kind px py qx qy : ℤ} → SFits w64 kind → SFits w64 px → SFits w64 py → SFits w64 qx → SFits w64 qy
     → piece (out kind) (out px) (out py) (out qx) (out qy) ≡ piece kind px py qx qy
 piece-out k a b c d = λ i. piece (out-is k i) (out-is a i) (out-is b i) (out-is c i) (out-is d i)
+
+pub turned-is : {r a z D y : ℤ} → Fit r → r ≡ sgn a *ℤ z → a ≡ D → z ≡ y → out r ≡ sgn D *ℤ y
+turned-is h e f g = gave h e ∙ (λ i. sgn (f i) *ℤ g i)
+
+pub turned-size : {r a D : ℤ} → Fit r → r ≡ sgn a *ℤ a → a ≡ D → out r ≡ size D
+turned-size {D = D} h e f = turned-is h e f f ∙ sgn-mul-self D

@@ -3,7 +3,7 @@ use mathlib.Core.List.{List, [], _∷_}
 use lib.IntN.{ℤ, pos, _-ℤ_, _*ℤ_}
 use lib.Signed.{_<ℤ_}
 use Rattle.whole.specs.Sign.{sgn}
-use Rattle.whole.specs.SignLaws.{sgn-mul-self, size-above}
+use Rattle.whole.specs.SignLaws.{size-above}
 use Rattle.whole.specs.Ring.{Expr, var, _⊖_, _⊗_, ev}
 use Rattle.whole.specs.Flat.{mach, need, gives, small, held}
 use Rattle.whole.specs.Bound.{w-is, w-lit, w-pos, w-mul, w-sgn, w-size}
@@ -13,8 +13,7 @@ use Rattle.sheet.specs.Points.{size, divided}
 use Rattle.sheet.specs.EndsLaws.{moment-is}
 use Rattle.sheet.specs.Crossing.{cross}
 use Rattle.kernel.specs.Pieces.{at}
-use Rattle.kernel.proofs.Handed.{gave}
-use Rattle.kernel.proofs.Eight.{dxE, dyE, fxE, fyE, acrossE}
+use Rattle.kernel.proofs.Eight.{dxE, dyE, fxE, fyE, acrossE, turned-is, turned-size}
 use Rattle.kernel.proofs.pieces.meeting_point.Statement.{statement}
 use Rattle.kernel.proofs.pieces.meeting_point.Tie as tie
 
@@ -40,19 +39,15 @@ not-parallel s e = s .pre .apart (sym (gives (s .pre .near .near) acrossE tt) �
 x-is : (c : tie.After-turned) → out (c .turned .result) ≡ sgn (ev (ρ (c .before)) acrossE) *ℤ ev (ρ (c .before)) overE
 x-is c =
     let b = c .before .pre .near .near in
-    gave (c .turned .ok) (c .turned .ensures) ∙ (λ i. sgn (gives b acrossE tt i) *ℤ gives b overE tt i)
+    turned-is (c .turned .ok) (c .turned .ensures) (gives b acrossE tt) (gives b overE tt)
 
 y-is : (c : tie.After-turned2) → out (c .turned2 .result) ≡ sgn (ev (ρ (c .before .before)) acrossE) *ℤ ev (ρ (c .before .before)) upE
 y-is c =
     let b = c .before .before .pre .near .near in
-    gave (c .turned2 .ok) (c .turned2 .ensures) ∙ (λ i. sgn (gives b acrossE tt i) *ℤ gives b upE tt i)
+    turned-is (c .turned2 .ok) (c .turned2 .ensures) (gives b acrossE tt) (gives b upE tt)
 
 w-is-size : (c : tie.After-turned3) → out (c .turned3 .result) ≡ size (ev (ρ (c .before .before .before)) acrossE)
-w-is-size c =
-    let s = c .before .before .before in
-    let b = s .pre .near .near in
-    gave (c .turned3 .ok) (c .turned3 .ensures)
-    ∙ (λ i. sgn (gives b acrossE tt i) *ℤ gives b acrossE tt i) ∙ sgn-mul-self (ev (ρ s) acrossE)
+w-is-size c = turned-size (c .turned3 .ok) (c .turned3 .ensures) (gives (c .before .before .before .pre .near .near) acrossE tt)
 
 sub-dx : tie.Need-sub-dx
 sub-dx c = need (c .pre .near .near) dxE tt

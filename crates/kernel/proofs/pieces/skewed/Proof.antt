@@ -4,7 +4,6 @@ use mathlib.Core.List.{List, [], _∷_}
 use lib.IntN.{ℤ, pos, _*ℤ_}
 use borrow.Author.Tests.{not-true, not-false}
 use Rattle.whole.specs.Sign.{sgn}
-use Rattle.whole.specs.SignLaws.{sgn-mul-self}
 use Rattle.whole.specs.Ring.{Expr, _⊖_, _⊗_, ev}
 use Rattle.whole.specs.Flat.{need, gives, small, held}
 use Rattle.whole.specs.Bound.{w-is, w-lit, w-pos, fits64}
@@ -12,8 +11,7 @@ use Rattle.whole.specs.Tests.{out, out-is}
 use Rattle.sheet.specs.Points.{size, divided}
 use Rattle.sheet.specs.Crossing.{Piece, none, point, meetingPoint, reaches}
 use Rattle.kernel.specs.Pieces.{at, piece, reachesBy, reaches-is}
-use Rattle.kernel.proofs.Handed.{gave}
-use Rattle.kernel.proofs.Eight.{dxE, dyE, fxE, fyE, exE, eyE, acrossE, say, apart-out, piece-out}
+use Rattle.kernel.proofs.Eight.{dxE, dyE, fxE, fyE, exE, eyE, acrossE, say, apart-out, piece-out, turned-is, turned-size}
 use borrow.Author.Needs.{needs}
 use Rattle.kernel.proofs.pieces.skewed.Statement.{statement}
 use Rattle.kernel.proofs.pieces.skewed.Tie as tie
@@ -53,14 +51,10 @@ not-parallel s e = s .pre .0 .apart (sym (across-is s) ∙ e)
 h-is : (c : tie.After-turned) → out (c .turned .result) ≡ sgn (ev (ρ (c .before)) acrossE) *ℤ ev (ρ (c .before)) oneE
 h-is c =
     let s = c .before in
-    gave (c .turned .ok) (c .turned .ensures)
-    ∙ (λ i. sgn (across-is s i) *ℤ gives (s .pre .0 .near .near) oneE tt i)
+    turned-is (c .turned .ok) (c .turned .ensures) (across-is s) (gives (s .pre .0 .near .near) oneE tt)
 
 w-is-size : (c : tie.After-turned2) → out (c .turned2 .result) ≡ size (ev (ρ (c .before .before)) acrossE)
-w-is-size c =
-    let s = c .before .before in
-    gave (c .turned2 .ok) (c .turned2 .ensures)
-    ∙ (λ i. sgn (across-is s i) *ℤ across-is s i) ∙ sgn-mul-self (ev (ρ s) acrossE)
+w-is-size c = turned-size (c .turned2 .ok) (c .turned2 .ensures) (across-is (c .before .before))
 
 abbrev start : tie.After-reaches → tie.Start
 start c = c .before .before .before
@@ -68,8 +62,7 @@ start c = c .before .before .before
 g-is : (c : tie.After-turned3) → let s = start (c .before .before) in out (c .turned3 .result) ≡ sgn (ev (ρ s) acrossE) *ℤ ev (ρ s) twoE
 g-is c =
     let s = start (c .before .before) in
-    gave (c .turned3 .ok) (c .turned3 .ensures)
-    ∙ (λ i. sgn (across-is s i) *ℤ gives (s .pre .0 .near .near) twoE tt i)
+    turned-is (c .turned3 .ok) (c .turned3 .ensures) (across-is s) (gives (s .pre .0 .near .near) twoE tt)
 
 -- the code's two tests are the paper's
 first-is : (c : tie.After-reaches) → c .reaches .result ≡ first (start c)
