@@ -28,6 +28,7 @@ use Rattle.sheet.specs.Crossing.{Meeting, point}
 use Rattle.kernel.specs.Bounds.{Direction, Ahead, Out}
 use Rattle.kernel.specs.Forms.{isFlat, flat-form, steep-form}
 use Rattle.kernel.specs.Pieces.{at, onBy, endBy}
+use Rattle.kernel.proofs.Handed.{within-out}
 use Rattle.kernel.proofs.Eight.{dxE, dyE}
 
 -- dx py - dy px
@@ -67,7 +68,7 @@ module _ {px py dx dy : ℤ} (h : Ahead px py dx dy) where
   far-out = λ i. farEnd (at (back (h .bpx) tt i) (back (h .bpy) tt i)) (at (back (h .bdx) tt i) (back (h .bdy) tt i))
 
 pub outward : {ox oy : ℤ} → Out ox oy → Out (out ox) (out oy)
-outward o = record { box = held (o .box also none) (var 0) tt; boy = held (o .boy also none) (var 0) tt }
+outward o = record { box = within-out (o .box) tt; boy = within-out (o .boy) tt }
 
 -- ox dx + oy dy
 abbrev pub mE : Expr
@@ -120,8 +121,8 @@ module _ {p q : Vec} (h : Proper p q) where
       (mach (p .x ∷ p .y ∷ q .x ∷ q .y ∷ []) dxE)
       (mach (p .x ∷ p .y ∷ q .x ∷ q .y ∷ []) dyE)
   ahead s = record {
-    bpx = held (s .in-x also none) (var 0) tt;
-    bpy = held (s .in-y also none) (var 0) tt;
+    bpx = within-out (s .in-x) tt;
+    bpy = within-out (s .in-y) tt;
     bdx = held pair dxE tt;
     bdy = held pair dyE tt;
     moves =

@@ -7,14 +7,14 @@ use mathlib.Core.Path.{_≡_, _∙_, ap₂}
 use lib.IntN.{ℤ, _-ℤ_, _*ℤ_}
 use Rattle.whole.specs.Sign.{sgn}
 use Rattle.whole.specs.Poly.{first}
-use Rattle.whole.specs.Ring.{var}
-use Rattle.whole.specs.Flat.{none, _also_, held, back}
+use Rattle.whole.specs.Flat.{back}
 use Rattle.whole.specs.Bound.{fits64}
 use Rattle.whole.specs.Tests.{out}
 use Rattle.sheet.specs.declared.Point.{Point}
 use Rattle.sheet.specs.PointsLaws.{Sizes}
 use Rattle.kernel.specs.Bounds.{Coordinate}
 use Rattle.kernel.proofs.Handed as handed
+use Rattle.kernel.proofs.Handed.{within-out}
 
 module _ {p : Point} (s : Sizes p) where
   pub x-of : Coordinate (p .mx) (p .nx) (p .w)
@@ -32,9 +32,9 @@ module _ {p : Point} (s : Sizes p) where
 
 pub coordinate-out : {m n w : ℤ} → Coordinate m n w → Coordinate (out m) (out n) (out w)
 coordinate-out c = record {
-  bm = held (c .bm also none) (var 0) tt;
-  bn = held (c .bn also none) (var 0) tt;
-  bw = held (c .bw also none) (var 0) tt;
+  bm = within-out (c .bm) tt;
+  bn = within-out (c .bn) tt;
+  bw = within-out (c .bw) tt;
 }
 
 pub along-out :

@@ -7,12 +7,13 @@ use mathlib.Core.List.{List, [], _∷_}
 use Prim.Native.Nat.{ℕ}
 use lib.IntN.{ℤ}
 use Rattle.whole.specs.Ring.{Expr, var, _⊕_, _⊖_, _⊗_}
-use Rattle.whole.specs.Flat.{All, none, _also_, held, small, back}
+use Rattle.whole.specs.Flat.{All, none, _also_, small, back}
 use Rattle.whole.specs.Bound.{Within}
 use Rattle.whole.specs.Tests.{out}
 use Rattle.sheet.specs.declared.Point.{Point}
 use Rattle.sheet.specs.Expansions.{det}
 use Rattle.kernel.specs.Bounds.{Row, NarrowSizes}
+use Rattle.kernel.proofs.Handed.{within-out}
 
 module _ {p : Point} (h : NarrowSizes p) where
   pub mm : Row (p .w) (p .mx) (p .my)
@@ -29,9 +30,9 @@ module _ {p : Point} (h : NarrowSizes p) where
 
 pub row-out : {w x y : ℤ} → Row w x y → Row (out w) (out x) (out y)
 row-out r = record {
-  bw = held (r .bw also none) (var 0) tt;
-  bx = held (r .bx also none) (var 0) tt;
-  by = held (r .by also none) (var 0) tt;
+  bw = within-out (r .bw) tt;
+  bx = within-out (r .bx) tt;
+  by = within-out (r .by) tt;
 }
 
 pub det-out :

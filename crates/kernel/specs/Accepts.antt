@@ -21,8 +21,8 @@ use Rattle.sheet.specs.AcceptsLaws.{order-taken, turn-taken, side-taken}
 use Rattle.kernel.specs.Bounds.{NarrowSizes}
 use Rattle.kernel.specs.Kinds.{lit-taken}
 
-pub not-refused : {n : ℤ} (r : ℤ) → mag r < 2 ^ hbits w64 → r ≡ n → ofZ w64 r ≡ 0 → n ≡ pos 0
-not-refused r h e z = sym e ∙ lit-taken 0 tt (fits-ok r h) z
+pub not-refused : {r n : ℤ} → mag r < 2 ^ hbits w64 → r ≡ n → ofZ w64 r ≡ 0 → n ≡ pos 0
+not-refused {r} h e z = sym e ∙ lit-taken 0 tt (fits-ok r h) z
 
 sizes : (p : Point) → isPoint p ≡ true → Sizes p
 sizes p h = point-sizes (point-is p .0 h)

@@ -15,12 +15,12 @@ use Rattle.kernel.proofs.crossing.cross.Tie as tie
 first-taken : (c : tie.Else1) → Accepted (c .before .before .args .a)
 first-taken c =
     let r = c .before .object-refusal in
-    record { accepted = not-refused (r .result) (r .ok) (r .ensures .0) (c .if1 .left) }
+    record { accepted = not-refused (r .ok) (r .ensures .0) (c .if1 .left) }
 
 second-taken : (c : tie.Else2) → Accepted (c .before .before .before .before .args .b)
 second-taken c =
     let r = c .before .object-refusal2 in
-    record { accepted = not-refused (r .result) (r .ok) (r .ensures .0) (c .if2 .left) }
+    record { accepted = not-refused (r .ok) (r .ensures .0) (c .if2 .left) }
 
 -- the objects as they are handed on
 abbrev tested : tie.After-struct-told10 → tie.Else2

@@ -4,14 +4,13 @@ use Prim.Native.Nat.{ℕ, _<_, _≤_}
 use lib.IntN.{ℤ, pos}
 use lib.Signed.{quotZ}
 use Rattle.whole.specs.Divisor.{gcdOf}
-use Rattle.whole.specs.Ring.{var}
-use Rattle.whole.specs.Flat.{none, _also_, held, back}
+use Rattle.whole.specs.Flat.{back}
 use Rattle.whole.specs.Bound.{Within}
 use Rattle.whole.specs.Tests.{out, out-is}
 use Rattle.sheet.specs.Points.{divided}
 use Rattle.kernel.specs.Bounds.{Part}
 use Rattle.kernel.specs.Forms.{divisor-bounds}
-use Rattle.kernel.proofs.Handed.{gave}
+use Rattle.kernel.proofs.Handed.{within-out, gave}
 use borrow.Author.Needs.{needs}
 use Rattle.kernel.proofs.divide.divide.Statement.{statement}
 use Rattle.kernel.proofs.divide.divide.Tie as tie
@@ -28,7 +27,7 @@ found c =
 part-asks : (c : tie.After-divisor) {n : ℤ} → Within 64000000000 n → Part (out n) (c .divisor .result)
 part-asks c h =
     let b = subst (λ (g : ℕ). (0 < g) × (g ≤ 64000000000)) (sym (found c)) (divisor-bounds (c .before .pre)) in
-    record { bn = held (h also none) (var 0) tt; above = b .0; small = b .1 }
+    record { bn = within-out h tt; above = b .0; small = b .1 }
 
 part-gives : (c : tie.After-divisor) {n : ℤ} → Within 64000000000 n → quotZ (out n) (pos (c .divisor .result)) ≡ quotZ n (pos (common (c .before)))
 part-gives c h = ap₂ (λ (z : ℤ) (g : ℕ). quotZ z (pos g)) (back h tt) (found c)

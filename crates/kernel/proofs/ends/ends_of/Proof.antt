@@ -13,7 +13,7 @@ use Rattle.kernel.proofs.ends.ends_of.Statement.{statement}
 use Rattle.kernel.proofs.ends.ends_of.Tie as tie
 
 taken : (c : tie.Else1) → Accepted (c .before .before .args .o)
-taken c = let r = c .before .object-refusal in record { accepted = not-refused (r .result) (r .ok) (r .ensures .0) (c .if1 .left) }
+taken c = let r = c .before .object-refusal in record { accepted = not-refused (r .ok) (r .ensures .0) (c .if1 .left) }
 
 -- the object as it is handed on
 abbrev tested : tie.After-struct-told5 → tie.Else1

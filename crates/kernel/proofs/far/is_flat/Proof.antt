@@ -8,10 +8,11 @@ use mir.Syntax.{w64}
 use mir.Val.{ofZ}
 use Rattle.whole.specs.Sign.{sgn}
 use Rattle.whole.specs.Ring.{var, _⊗_}
-use Rattle.whole.specs.Flat.{All, none, _also_, need, gives, held}
+use Rattle.whole.specs.Flat.{All, none, _also_, need, gives}
 use Rattle.whole.specs.Bound.{w-is, w-sgn}
 use Rattle.whole.specs.Tests.{eqZ, eq-flag, fits-ok, out-is, out-ok}
 use Rattle.sheet.specs.Points.{size}
+use Rattle.kernel.proofs.Handed.{within-out}
 use borrow.Author.Needs.{needs}
 use Rattle.kernel.proofs.far.is_flat.Statement.{statement}
 use Rattle.kernel.proofs.far.is_flat.Tie as tie
@@ -23,10 +24,10 @@ signs c =
     also c .before .before .before .before .pre .bk also none
 
 abs-requires : tie.Need-abs-requires
-abs-requires c κs = held (c .pre .bdx also none) (var 0) tt
+abs-requires c κs = within-out (c .pre .bdx) tt
 
 abs-requires-2 : tie.Need-abs-requires-2
-abs-requires-2 c κs = held (c .before .pre .bdy also none) (var 0) tt
+abs-requires-2 c κs = within-out (c .before .pre .bdy) tt
 
 sign-requires : tie.Need-sign-requires
 sign-requires c κs = search needs

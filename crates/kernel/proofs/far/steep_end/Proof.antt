@@ -9,7 +9,7 @@ use Rattle.whole.specs.Bound.{w-is, w-lit, w-pos, w-sgn, w-size}
 use Rattle.whole.specs.Tests.{out, out-is}
 use Rattle.sheet.specs.Points.{size, divided}
 use Rattle.kernel.specs.Forms.{steep-is}
-use Rattle.kernel.proofs.Handed.{gave}
+use Rattle.kernel.proofs.Handed.{within-out, gave}
 use borrow.Author.Needs.{needs}
 use Rattle.kernel.proofs.far.steep_end.Statement.{statement}
 use Rattle.kernel.proofs.far.steep_end.Tie as tie
@@ -25,7 +25,7 @@ wide : (c : tie.After-sign) → out (c .before .abs .result) ≡ size (c .before
 wide c = gave (c .before .abs .ok) (c .before .abs .ensures) ∙ ap size (out-is (c .before .before .fits .dy))
 
 abs-requires : tie.Need-abs-requires
-abs-requires c κs = held (c .pre .0 .bdy also none) (var 0) tt
+abs-requires c κs = within-out (c .pre .0 .bdy) tt
 
 sign-requires : tie.Need-sign-requires
 sign-requires c κs = search needs
@@ -40,9 +40,9 @@ divide-requires : tie.Need-divide-requires
 divide-requires c κs =
     let s = c .before .before in
     record {
-      bmx = w-lit (held (s .pre .0 .bdx also none) (var 0) tt) tt;
+      bmx = w-lit (within-out (s .pre .0 .bdx) tt) tt;
       bnx = w-lit (held (factors c) (lit 0 ⊖ var 0 ⊗ var 1) tt) tt;
-      bmy = w-lit (held (s .pre .0 .bdy also none) (var 0) tt) tt;
+      bmy = w-lit (within-out (s .pre .0 .bdy) tt) tt;
       bny = w-lit (w-pos 0) tt;
       bw = w-lit (w-is (wide c) (w-size (s .pre .0 .bdy))) tt;
       above = subst (λ (z : ℤ). pos 0 <ℤ z) (sym (wide c)) (s .pre .1);

@@ -18,7 +18,7 @@ refusal c =
     c .or-else .ensures ∙ ap₂ orElse (gave (p .ok) (p .ensures)) (gave (q .ok) (q .ensures))
 
 passed : (c : tie.Else1) → orderRefusal (c .before .before .before .before .args .p) (c .before .before .before .before .args .q) ≡ pos 0
-passed c = not-refused (c .before .or-else .result) (c .before .or-else .ok) (refusal (c .before)) (c .if1 .left)
+passed c = not-refused (c .before .or-else .ok) (refusal (c .before)) (c .if1 .left)
 
 check-point-requires : tie.Need-check-point-requires
 check-point-requires c κs = search needs

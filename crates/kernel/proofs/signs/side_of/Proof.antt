@@ -18,7 +18,7 @@ refusal c =
     c .or-else .ensures ∙ ap₂ orElse (gave (o .ok) (o .ensures .0)) (gave (s .ok) (s .ensures))
 
 passed : (c : tie.Else1) → sideSignRefusal (c .before .before .before .before .args .o) (c .before .before .before .before .args .s) ≡ pos 0
-passed c = not-refused (c .before .or-else .result) (c .before .or-else .ok) (refusal (c .before)) (c .if1 .left)
+passed c = not-refused (c .before .or-else .ok) (refusal (c .before)) (c .if1 .left)
 
 object-refusal-requires : tie.Need-object-refusal-requires
 object-refusal-requires c κs = search needs

@@ -11,7 +11,7 @@ use Rattle.kernel.proofs.signs.turn_points.Statement.{statement}
 use Rattle.kernel.proofs.signs.turn_points.Tie as tie
 
 passed : (c : tie.Else1) → turnRefusal (c .before .before .args .p) (c .before .before .args .q) (c .before .before .args .s) ≡ pos 0
-passed c = let r = c .before .turn-refusal in not-refused (r .result) (r .ok) (r .ensures) (c .if1 .left)
+passed c = let r = c .before .turn-refusal in not-refused (r .ok) (r .ensures) (c .if1 .left)
 
 turn-refusal-requires : tie.Need-turn-refusal-requires
 turn-refusal-requires c κs = search needs
