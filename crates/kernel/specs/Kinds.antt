@@ -1,6 +1,6 @@
 -- An accepted object by the tests of its kind. To cite:
 --   lit-taken                   the code's test of a number against a literal, as an equation
---   accepted-pair, accepted-side   not a side: p and q are given points that differ; a side: its number is that of one
+--   accepted-pair, accepted-side   not a side: p and q are given points that differ; a side: which of the four it is
 --   first-side, last-side, first-line, first-given, last-given, last-far   the ends by the kind
 --   side-pair                   the side of one that is not a frame side
 --   side-one, side-two, side-three, side-four   the side of a number, by the code's tests
