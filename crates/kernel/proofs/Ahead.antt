@@ -101,10 +101,10 @@ pub swapped : {p q : Vec} → Proper p q → Proper q p
 swapped h = record { small-p = h .small-q; small-q = h .small-p; differ = λ e f. h .differ (sym e) (sym f) }
 
 pub reversed : (p q : Vec) → q ⇀ p ≡ reverse (p ⇀ q)
-reversed p q = λ i. at (turned (p .x) (q .x) i) (turned (p .y) (q .y) i)
+reversed p q = λ i. at (opposite (p .x) (q .x) i) (opposite (p .y) (q .y) i)
   where
-    turned : (a b : ℤ) → a -ℤ b ≡ negℤ (b -ℤ a)
-    turned a b = ring (a ∷ b ∷ []) (var 0 ⊖ var 1) (⊝ (var 1 ⊖ var 0)) tt
+    opposite : (a b : ℤ) → a -ℤ b ≡ negℤ (b -ℤ a)
+    opposite a b = ring (a ∷ b ∷ []) (var 0 ⊖ var 1) (⊝ (var 1 ⊖ var 0)) tt
 
 pub place : {p : Vec} → Small 2000 p → at (out (p .x)) (out (p .y)) ≡ p
 place s = λ i. at (back (s .in-x) tt i) (back (s .in-y) tt i)

@@ -3,7 +3,7 @@
 --   dxE, dyE, fxE, fyE, exE, eyE, acrossE   the differences and the cross product, as the code writes them
 --   near-out, apart-out     what an inner function asks, of the numbers as they come out of locals
 --   piece-out               the piece of numbers out of locals
---   turned-is, turned-size  what `turned` gives, by numbers equal to those that it was given; of a number with itself
+--   times-sign-is, times-sign-size  what `times_sign` gives, by numbers equal to those that it was given; of a number with itself
 --   say                     what an accepted crossing says
 use mathlib.Core.Path.{_≡_, sym, _∙_}
 use mathlib.Core.List.{List, _∷_}
@@ -72,8 +72,8 @@ pub piece-out :
     → piece (out kind) (out px) (out py) (out qx) (out qy) ≡ piece kind px py qx qy
 piece-out k a b c d = λ i. piece (out-is k i) (out-is a i) (out-is b i) (out-is c i) (out-is d i)
 
-pub turned-is : {r a z D y : ℤ} → Fit r → r ≡ sgn a *ℤ z → a ≡ D → z ≡ y → out r ≡ sgn D *ℤ y
-turned-is h e f g = gave h e ∙ (λ i. sgn (f i) *ℤ g i)
+pub times-sign-is : {r a z D y : ℤ} → Fit r → r ≡ sgn a *ℤ z → a ≡ D → z ≡ y → out r ≡ sgn D *ℤ y
+times-sign-is h e f g = gave h e ∙ (λ i. sgn (f i) *ℤ g i)
 
-pub turned-size : {r a D : ℤ} → Fit r → r ≡ sgn a *ℤ a → a ≡ D → out r ≡ size D
-turned-size {D = D} h e f = turned-is h e f f ∙ sgn-mul-self D
+pub times-sign-size : {r a D : ℤ} → Fit r → r ≡ sgn a *ℤ a → a ≡ D → out r ≡ size D
+times-sign-size {D = D} h e f = times-sign-is h e f f ∙ sgn-mul-self D

@@ -77,10 +77,10 @@ pub record Apart (px py qx qy rx ry sx sy : ℤ) : Type 0 where
   pub near : Near px py qx qy rx ry sx sy
   pub apart : ((qx -ℤ px) *ℤ (sy -ℤ ry) -ℤ (qy -ℤ py) *ℤ (sx -ℤ rx)) ≡ pos 0 → ⊥
 
--- a number whose sign is taken out of z
-pub record Turned (w z : ℤ) : Type 0 where
+-- a number that is not 0, and one that its sign goes into
+pub record TimesSign (w z : ℤ) : Type 0 where
   pub bz : Within 64000000000 z
-  pub other : w ≡ pos 0 → ⊥
+  pub not-zero : w ≡ pos 0 → ⊥
 
 -- the way out over a side
 pub record Out (ox oy : ℤ) : Type 0 where

@@ -52,8 +52,8 @@ fn steep_end(dx: i64, dy: i64, k: i64) -> Point
 {
     let w = abs(dy);
     let sy = whole::sign(dy);
-    let turned = sy * k;
-    let nx = -turned;
+    let sk = sy * k;
+    let nx = -sk;
     divide(dx, nx, dy, 0, w)
 }
 

@@ -12,12 +12,12 @@ ghost use Rattle.sheet.specs.Points.{divided};
 ghost use Rattle.sheet.specs.Figure.{_⇀_};
 ghost use Rattle.sheet.specs.Crossing.{cross, pieces, skew, meetingPoint};
 ghost use Rattle.sheet.specs.Answers.{meetingNumbers, crossingSays};
-ghost use Rattle.kernel.specs.Bounds.{Near, Apart, Turned};
+ghost use Rattle.kernel.specs.Bounds.{Near, Apart, TimesSign};
 ghost use Rattle.kernel.specs.Pieces.{at, piece, reachesBy};
 
 // The sign of w, which is not 0, times z.
-fn turned(w: i64, z: i64) -> i64
-    requires { ⌜ Turned w z ⌝ }
+fn times_sign(w: i64, z: i64) -> i64
+    requires { ⌜ TimesSign w z ⌝ }
     ensures { λ r. ⌜ r ≡ sgn w *ℤ z ⌝ }
 {
     if w < 0 {
@@ -49,9 +49,9 @@ fn meeting_point(px: i64, py: i64, qx: i64, qy: i64, rx: i64, ry: i64, sx: i64, 
     let m = sx * ry - sy * rx;
     let over = k * fx - m * dx;
     let up = k * fy - m * dy;
-    let nx = turned(across, over);
-    let ny = turned(across, up);
-    let w = turned(across, across);
+    let nx = times_sign(across, over);
+    let ny = times_sign(across, up);
+    let w = times_sign(across, across);
     divide(0, nx, 0, ny, w)
 }
 
@@ -81,13 +81,13 @@ fn skewed(
     let ex = rx - px;
     let ey = ry - py;
     let one = ex * fy - ey * fx;
-    let h = turned(across, one);
-    let w = turned(across, across);
+    let h = times_sign(across, one);
+    let w = times_sign(across, across);
     if !reaches(ka, h, w) {
         return Crossing::Nothing;
     }
     let two = ex * dy - ey * dx;
-    let g = turned(across, two);
+    let g = times_sign(across, two);
     if !reaches(kb, g, w) {
         return Crossing::Nothing;
     }

@@ -18,8 +18,8 @@ use Rattle.kernel.proofs.far.flat_end.Tie as tie
 factors : (c : tie.After-sign) → All (1 ∷ 16000000 ∷ []) (c .sign .result ∷ c .before .before .args .k ∷ [])
 factors c = w-is (c .sign .ensures) (w-sgn _) also c .before .before .pre .0 .bk also none
 
-turned : (c : tie.After-sign) → c .sign .result ≡ sgn (c .before .before .args .dx)
-turned c = c .sign .ensures ∙ ap sgn (out-is (c .before .before .fits .dx))
+sign-is : (c : tie.After-sign) → c .sign .result ≡ sgn (c .before .before .args .dx)
+sign-is c = c .sign .ensures ∙ ap sgn (out-is (c .before .before .fits .dx))
 
 wide : (c : tie.After-sign) → out (c .before .abs .result) ≡ size (c .before .before .args .dx)
 wide c = gave (c .before .abs .ok) (c .before .abs .ensures) ∙ ap size (out-is (c .before .before .fits .dx))
@@ -49,7 +49,7 @@ returns : tie.Need-returns
 returns c =
     let d = c .before in
     let s = d .before .before in
-    let n = gives (factors d) (var 0 ⊗ var 1) tt ∙ ap (λ (z : ℤ). z *ℤ s .args .k) (turned d) in
+    let n = gives (factors d) (var 0 ⊗ var 1) tt ∙ ap (λ (z : ℤ). z *ℤ s .args .k) (sign-is d) in
     c .divide .ensures
     ∙ ap divided ((λ i. record { mx = out-is (s .fits .dx) i; nx = pos 0; my = out-is (s .fits .dy) i; ny = n i; w = wide d i }) ∙ sym (flat-is (s .args .dx) (s .args .dy) (s .args .k)))
 

@@ -18,8 +18,8 @@ use Rattle.kernel.proofs.far.steep_end.Tie as tie
 factors : (c : tie.After-sign) → All (1 ∷ 16000000 ∷ []) (c .sign .result ∷ c .before .before .args .k ∷ [])
 factors c = w-is (c .sign .ensures) (w-sgn _) also c .before .before .pre .0 .bk also none
 
-turned : (c : tie.After-sign) → c .sign .result ≡ sgn (c .before .before .args .dy)
-turned c = c .sign .ensures ∙ ap sgn (out-is (c .before .before .fits .dy))
+sign-is : (c : tie.After-sign) → c .sign .result ≡ sgn (c .before .before .args .dy)
+sign-is c = c .sign .ensures ∙ ap sgn (out-is (c .before .before .fits .dy))
 
 wide : (c : tie.After-sign) → out (c .before .abs .result) ≡ size (c .before .before .args .dy)
 wide c = gave (c .before .abs .ok) (c .before .abs .ensures) ∙ ap size (out-is (c .before .before .fits .dy))
@@ -30,8 +30,8 @@ abs-requires c κs = within-out (c .pre .0 .bdy) tt
 sign-requires : tie.Need-sign-requires
 sign-requires c κs = search needs
 
-mul-turned : tie.Need-mul-turned
-mul-turned c = need (factors c) (var 0 ⊗ var 1) tt
+mul-sk : tie.Need-mul-sk
+mul-sk c = need (factors c) (var 0 ⊗ var 1) tt
 
 sub-nx : tie.Need-sub-nx
 sub-nx c = need (factors c) (lit 0 ⊖ var 0 ⊗ var 1) tt
@@ -52,10 +52,10 @@ returns : tie.Need-returns
 returns c =
     let d = c .before in
     let s = d .before .before in
-    let n = gives (factors d) (lit 0 ⊖ var 0 ⊗ var 1) tt ∙ +ℤ-idl (negℤ (d .sign .result *ℤ s .args .k)) ∙ ap (λ (z : ℤ). negℤ (z *ℤ s .args .k)) (turned d) in
+    let n = gives (factors d) (lit 0 ⊖ var 0 ⊗ var 1) tt ∙ +ℤ-idl (negℤ (d .sign .result *ℤ s .args .k)) ∙ ap (λ (z : ℤ). negℤ (z *ℤ s .args .k)) (sign-is d) in
     c .divide .ensures
     ∙ ap divided ((λ i. record { mx = out-is (s .fits .dx) i; nx = n i; my = out-is (s .fits .dy) i; ny = pos 0; w = wide d i }) ∙ sym (steep-is (s .args .dx) (s .args .dy) (s .args .k)))
 
 pub steep-end-spec : {M : Type 1} → statement M
 steep-end-spec =
-    tie.close (tie.spec abs-requires sign-requires mul-turned sub-nx divide-requires returns)
+    tie.close (tie.spec abs-requires sign-requires mul-sk sub-nx divide-requires returns)

@@ -13,7 +13,7 @@ use Rattle.sheet.specs.Points.{size, divided}
 use Rattle.sheet.specs.EndsLaws.{moment-is}
 use Rattle.sheet.specs.Crossing.{cross}
 use Rattle.kernel.specs.Pieces.{at}
-use Rattle.kernel.proofs.Eight.{dxE, dyE, fxE, fyE, acrossE, turned-is, turned-size}
+use Rattle.kernel.proofs.Eight.{dxE, dyE, fxE, fyE, acrossE, times-sign-is, times-sign-size}
 use Rattle.kernel.proofs.pieces.meeting_point.Statement.{statement}
 use Rattle.kernel.proofs.pieces.meeting_point.Tie as tie
 
@@ -36,18 +36,18 @@ abbrev ρ : tie.Start → List ℤ
 not-parallel : (s : tie.Start) → mach (ρ s) acrossE ≡ pos 0 → ⊥
 not-parallel s e = s .pre .apart (sym (gives (s .pre .near .near) acrossE tt) ∙ e)
 
-x-is : (c : tie.After-turned) → out (c .turned .result) ≡ sgn (ev (ρ (c .before)) acrossE) *ℤ ev (ρ (c .before)) overE
+x-is : (c : tie.After-times-sign) → out (c .times-sign .result) ≡ sgn (ev (ρ (c .before)) acrossE) *ℤ ev (ρ (c .before)) overE
 x-is c =
     let b = c .before .pre .near .near in
-    turned-is (c .turned .ok) (c .turned .ensures) (gives b acrossE tt) (gives b overE tt)
+    times-sign-is (c .times-sign .ok) (c .times-sign .ensures) (gives b acrossE tt) (gives b overE tt)
 
-y-is : (c : tie.After-turned2) → out (c .turned2 .result) ≡ sgn (ev (ρ (c .before .before)) acrossE) *ℤ ev (ρ (c .before .before)) upE
+y-is : (c : tie.After-times-sign2) → out (c .times-sign2 .result) ≡ sgn (ev (ρ (c .before .before)) acrossE) *ℤ ev (ρ (c .before .before)) upE
 y-is c =
     let b = c .before .before .pre .near .near in
-    turned-is (c .turned2 .ok) (c .turned2 .ensures) (gives b acrossE tt) (gives b upE tt)
+    times-sign-is (c .times-sign2 .ok) (c .times-sign2 .ensures) (gives b acrossE tt) (gives b upE tt)
 
-w-is-size : (c : tie.After-turned3) → out (c .turned3 .result) ≡ size (ev (ρ (c .before .before .before)) acrossE)
-w-is-size c = turned-size (c .turned3 .ok) (c .turned3 .ensures) (gives (c .before .before .before .pre .near .near) acrossE tt)
+w-is-size : (c : tie.After-times-sign3) → out (c .times-sign3 .result) ≡ size (ev (ρ (c .before .before .before)) acrossE)
+w-is-size c = times-sign-size (c .times-sign3 .ok) (c .times-sign3 .ensures) (gives (c .before .before .before .pre .near .near) acrossE tt)
 
 sub-dx : tie.Need-sub-dx
 sub-dx c = need (c .pre .near .near) dxE tt
@@ -106,20 +106,20 @@ mul-up-2 c = need (c .pre .near .near) (mE ⊗ dyE) tt
 sub-up : tie.Need-sub-up
 sub-up c = need (c .pre .near .near) upE tt
 
-turned-requires : tie.Need-turned-requires
-turned-requires c κs =
+times-sign-requires : tie.Need-times-sign-requires
+times-sign-requires c κs =
     let b = c .pre .near .near in
-    record { bz = held b overE tt; other = not-parallel c }
+    record { bz = held b overE tt; not-zero = not-parallel c }
 
-turned-requires-2 : tie.Need-turned-requires-2
-turned-requires-2 c κs =
+times-sign-requires-2 : tie.Need-times-sign-requires-2
+times-sign-requires-2 c κs =
     let s = c .before in
-    record { bz = held (s .pre .near .near) upE tt; other = not-parallel s }
+    record { bz = held (s .pre .near .near) upE tt; not-zero = not-parallel s }
 
-turned-requires-3 : tie.Need-turned-requires-3
-turned-requires-3 c κs =
+times-sign-requires-3 : tie.Need-times-sign-requires-3
+times-sign-requires-3 c κs =
     let s = c .before .before in
-    record { bz = w-lit (held (s .pre .near .near) acrossE tt) tt; other = not-parallel s }
+    record { bz = w-lit (held (s .pre .near .near) acrossE tt) tt; not-zero = not-parallel s }
 
 divide-requires : tie.Need-divide-requires
 divide-requires c κs =
@@ -172,8 +172,8 @@ meeting-point-spec =
     mul-up
     mul-up-2
     sub-up
-    turned-requires
-    turned-requires-2
-    turned-requires-3
+    times-sign-requires
+    times-sign-requires-2
+    times-sign-requires-3
     divide-requires
     returns)

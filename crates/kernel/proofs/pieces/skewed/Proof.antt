@@ -11,7 +11,7 @@ use Rattle.whole.specs.Tests.{out, out-is}
 use Rattle.sheet.specs.Points.{size, divided}
 use Rattle.sheet.specs.Crossing.{Piece, none, point, meetingPoint, reaches}
 use Rattle.kernel.specs.Pieces.{at, piece, reachesBy, reaches-is}
-use Rattle.kernel.proofs.Eight.{dxE, dyE, fxE, fyE, exE, eyE, acrossE, say, apart-out, piece-out, turned-is, turned-size}
+use Rattle.kernel.proofs.Eight.{dxE, dyE, fxE, fyE, exE, eyE, acrossE, say, apart-out, piece-out, times-sign-is, times-sign-size}
 use borrow.Author.Needs.{needs}
 use Rattle.kernel.proofs.pieces.skewed.Statement.{statement}
 use Rattle.kernel.proofs.pieces.skewed.Tie as tie
@@ -48,21 +48,21 @@ not-parallel : (s : tie.Start) → out (s .args .across) ≡ pos 0 → ⊥
 not-parallel s e = s .pre .0 .apart (sym (across-is s) ∙ e)
 
 -- the three numbers that are compared
-h-is : (c : tie.After-turned) → out (c .turned .result) ≡ sgn (ev (ρ (c .before)) acrossE) *ℤ ev (ρ (c .before)) oneE
+h-is : (c : tie.After-times-sign) → out (c .times-sign .result) ≡ sgn (ev (ρ (c .before)) acrossE) *ℤ ev (ρ (c .before)) oneE
 h-is c =
     let s = c .before in
-    turned-is (c .turned .ok) (c .turned .ensures) (across-is s) (gives (s .pre .0 .near .near) oneE tt)
+    times-sign-is (c .times-sign .ok) (c .times-sign .ensures) (across-is s) (gives (s .pre .0 .near .near) oneE tt)
 
-w-is-size : (c : tie.After-turned2) → out (c .turned2 .result) ≡ size (ev (ρ (c .before .before)) acrossE)
-w-is-size c = turned-size (c .turned2 .ok) (c .turned2 .ensures) (across-is (c .before .before))
+w-is-size : (c : tie.After-times-sign2) → out (c .times-sign2 .result) ≡ size (ev (ρ (c .before .before)) acrossE)
+w-is-size c = times-sign-size (c .times-sign2 .ok) (c .times-sign2 .ensures) (across-is (c .before .before))
 
 abbrev start : tie.After-reaches → tie.Start
 start c = c .before .before .before
 
-g-is : (c : tie.After-turned3) → let s = start (c .before .before) in out (c .turned3 .result) ≡ sgn (ev (ρ s) acrossE) *ℤ ev (ρ s) twoE
+g-is : (c : tie.After-times-sign3) → let s = start (c .before .before) in out (c .times-sign3 .result) ≡ sgn (ev (ρ s) acrossE) *ℤ ev (ρ s) twoE
 g-is c =
     let s = start (c .before .before) in
-    turned-is (c .turned3 .ok) (c .turned3 .ensures) (across-is s) (gives (s .pre .0 .near .near) twoE tt)
+    times-sign-is (c .times-sign3 .ok) (c .times-sign3 .ensures) (across-is s) (gives (s .pre .0 .near .near) twoE tt)
 
 -- the code's two tests are the paper's
 first-is : (c : tie.After-reaches) → c .reaches .result ≡ first (start c)
@@ -110,13 +110,13 @@ mul-one-2 c = need (c .pre .0 .near .near) (eyE ⊗ fxE) tt
 sub-one : tie.Need-sub-one
 sub-one c = need (c .pre .0 .near .near) oneE tt
 
-turned-requires : tie.Need-turned-requires
-turned-requires c κs = record { bz = w-lit (held (c .pre .0 .near .near) oneE tt) tt; other = not-parallel c }
+times-sign-requires : tie.Need-times-sign-requires
+times-sign-requires c κs = record { bz = w-lit (held (c .pre .0 .near .near) oneE tt) tt; not-zero = not-parallel c }
 
-turned-requires-2 : tie.Need-turned-requires-2
-turned-requires-2 c κs =
+times-sign-requires-2 : tie.Need-times-sign-requires-2
+times-sign-requires-2 c κs =
     let s = c .before in
-    record { bz = w-lit (w-is (across-is s) (small (s .pre .0 .near .near) acrossE tt)) tt; other = not-parallel s }
+    record { bz = w-lit (w-is (across-is s) (small (s .pre .0 .near .near) acrossE tt)) tt; not-zero = not-parallel s }
 
 reaches-requires : tie.Need-reaches-requires
 reaches-requires c κs = search needs
@@ -136,10 +136,10 @@ mul-two-2 c = need (start (c .before) .pre .0 .near .near) (eyE ⊗ dxE) tt
 sub-two : tie.Need-sub-two
 sub-two c = need (start (c .before) .pre .0 .near .near) twoE tt
 
-turned-requires-3 : tie.Need-turned-requires-3
-turned-requires-3 c κs =
+times-sign-requires-3 : tie.Need-times-sign-requires-3
+times-sign-requires-3 c κs =
     let s = start (c .before) in
-    record { bz = w-lit (held (s .pre .0 .near .near) twoE tt) tt; other = not-parallel s }
+    record { bz = w-lit (held (s .pre .0 .near .near) twoE tt) tt; not-zero = not-parallel s }
 
 reaches-requires-2 : tie.Need-reaches-requires-2
 reaches-requires-2 c κs = search needs
@@ -179,14 +179,14 @@ skewed-spec =
     mul-one
     mul-one-2
     sub-one
-    turned-requires
-    turned-requires-2
+    times-sign-requires
+    times-sign-requires-2
     reaches-requires
     returns
     mul-two
     mul-two-2
     sub-two
-    turned-requires-3
+    times-sign-requires-3
     reaches-requires-2
     returns-2
     meeting-point-requires

@@ -7,8 +7,8 @@ use Rattle.whole.specs.Order.{lt-of-le-ne}
 use Rattle.whole.specs.Bound.{fits64, w-pos}
 use Rattle.whole.specs.SignLaws.{sgn-pos, sgn-neg}
 use Rattle.whole.specs.Tests.{out-is, lt-taken, lt-left}
-use Rattle.kernel.proofs.pieces.turned.Statement.{statement}
-use Rattle.kernel.proofs.pieces.turned.Tie as tie
+use Rattle.kernel.proofs.pieces.times_sign.Statement.{statement}
+use Rattle.kernel.proofs.pieces.times_sign.Tie as tie
 
 sub-result : tie.Need-sub-result
 sub-result c = need (c .before .pre .bz also none) (lit 0 ⊖ var 0) tt
@@ -24,8 +24,8 @@ returns-2 : tie.Need-returns-2
 returns-2 c =
     let s = c .before in
     let z = s .args .z in
-    let up = lt-of-le-ne (lt-left (s .fits .w) (fits64 (w-pos 0) tt) (c .if1 .left)) (λ e. s .pre .other (sym e)) in
+    let up = lt-of-le-ne (lt-left (s .fits .w) (fits64 (w-pos 0) tt) (c .if1 .left)) (λ e. s .pre .not-zero (sym e)) in
     out-is (s .fits .z) ∙ sym (ap (λ (t : ℤ). t *ℤ z) (sgn-pos up) ∙ one-mul z)
 
-pub turned-spec : {M : Type 1} → statement M
-turned-spec = tie.close (tie.spec sub-result returns returns-2)
+pub times-sign-spec : {M : Type 1} → statement M
+times-sign-spec = tie.close (tie.spec sub-result returns returns-2)
