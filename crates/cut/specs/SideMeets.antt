@@ -10,7 +10,8 @@ use Rattle.whole.specs.Reify.{reify, reading, solve, val-pos}
 use Rattle.whole.specs.Laws.{eq-of-sub}
 use Rattle.whole.specs.Order.{lt-cert, pp-add, pp-nn, ≤-trans, <-≤, <-≤-trans, le-or-lt}
 use Rattle.whole.specs.Bound.{w-add, w-mul}
-use Rattle.whole.specs.Tests.{cond-by, eqZ, eqZ-true, eq-eqZ}
+use Rattle.whole.specs.Flag.{eqZ}
+use Rattle.whole.specs.Tests.{cond-by, eqZ-true, eq-eqZ}
 use Rattle.whole.specs.Lead.{small, two-zero}
 use Rattle.whole.specs.Cert.{z-eq, z-add, eq-cert}
 use Rattle.sheet.specs.declared.Point.{Point}

@@ -11,7 +11,8 @@ use Rattle.whole.specs.Laws.{eq-of-sub}
 use Rattle.whole.specs.Order.{le-cert, le-nn, nn-add, nn-mul, pp-nn, ≤-trans}
 use Rattle.whole.specs.Sign.{sgn}
 use Rattle.whole.specs.SignLaws.{sgn-mul-self, size-above}
-use Rattle.whole.specs.Tests.{cond-by, eqZ, eqZ-true, eqZ-false, leZ-true, le-leZ}
+use Rattle.whole.specs.Flag.{eqZ}
+use Rattle.whole.specs.Tests.{cond-by, eqZ-true, eqZ-false, leZ-true, le-leZ}
 use Rattle.whole.specs.Cert.{z-eq, z-add, nn-eq, le-by, eq-by, eq-cert}
 use Rattle.sheet.specs.Figure.{Vec, _⇀_}
 use Rattle.sheet.specs.Points.{size, divided}

@@ -17,8 +17,9 @@ use mir.Syntax.{w64}
 use mir.Val.{SFits, ofZ}
 use Rattle.whole.specs.Laws.{eq-of-sub}
 use Rattle.whole.specs.Ring.{Expr, var, _⊕_, _⊖_, _⊗_, ⊝_, ring}
-use Rattle.whole.specs.Flat.{All, none, _also_, mach, raw, need, gives, raw-is, held, back}
-use Rattle.whole.specs.Tests.{eqZ, out, eq-flag}
+use Rattle.whole.specs.Flat.{All, none, _also_, mach, raw, need, gives, raw-is, held, back, within-out}
+use Rattle.whole.specs.Flag.{eqZ}
+use Rattle.whole.specs.Tests.{out, eq-flag}
 use Rattle.sheet.specs.declared.Point.{Point}
 use Rattle.sheet.specs.Figure.{Vec, _⇀_}
 use Rattle.sheet.specs.Points.{size}
@@ -28,7 +29,6 @@ use Rattle.sheet.specs.Crossing.{Meeting, point}
 use Rattle.kernel.specs.Bounds.{Direction, Ahead, Out}
 use Rattle.kernel.specs.Forms.{isFlat, flat-form, steep-form}
 use Rattle.kernel.specs.Pieces.{at, onBy, endBy}
-use Rattle.kernel.proofs.Handed.{within-out}
 use Rattle.kernel.proofs.Eight.{dxE, dyE}
 
 -- dx py - dy px

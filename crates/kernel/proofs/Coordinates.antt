@@ -7,14 +7,13 @@ use mathlib.Core.Path.{_≡_, _∙_, ap₂}
 use lib.IntN.{ℤ, _-ℤ_, _*ℤ_}
 use Rattle.whole.specs.Sign.{sgn}
 use Rattle.whole.specs.Poly.{first}
-use Rattle.whole.specs.Flat.{back}
+use Rattle.whole.specs.Flat.{back, within-out}
 use Rattle.whole.specs.Bound.{fits64}
-use Rattle.whole.specs.Tests.{out}
+use Rattle.whole.specs.Tests.{out, Fit, gave}
 use Rattle.sheet.specs.declared.Point.{Point}
 use Rattle.sheet.specs.PointsLaws.{Sizes}
 use Rattle.kernel.specs.Bounds.{Coordinate}
 use Rattle.kernel.proofs.Handed as handed
-use Rattle.kernel.proofs.Handed.{within-out}
 
 module _ {p : Point} (s : Sizes p) where
   pub x-of : Coordinate (p .mx) (p .nx) (p .w)
@@ -48,5 +47,5 @@ along-out c d =
     (sgn (back (c .bm) tt i *ℤ w2 i -ℤ back (d .bm) tt i *ℤ w i))
     (sgn (back (c .bn) tt i *ℤ w2 i -ℤ back (d .bn) tt i *ℤ w i))
 
-pub lead-is : {r a b u v : ℤ} → handed.Fit r → r ≡ first (sgn a) (sgn b) → a ≡ u → b ≡ v → out r ≡ first (sgn u) (sgn v)
-lead-is h e a b = handed.gave h e ∙ ap₂ (λ (x y : ℤ). first (sgn x) (sgn y)) a b
+pub lead-is : {r a b u v : ℤ} → Fit r → r ≡ first (sgn a) (sgn b) → a ≡ u → b ≡ v → out r ≡ first (sgn u) (sgn v)
+lead-is h e a b = gave h e ∙ ap₂ (λ (x y : ℤ). first (sgn x) (sgn y)) a b

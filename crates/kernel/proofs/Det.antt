@@ -7,13 +7,12 @@ use mathlib.Core.List.{List, [], _∷_}
 use Prim.Native.Nat.{ℕ}
 use lib.IntN.{ℤ}
 use Rattle.whole.specs.Ring.{Expr, var, _⊕_, _⊖_, _⊗_}
-use Rattle.whole.specs.Flat.{All, none, _also_, small, back}
+use Rattle.whole.specs.Flat.{All, none, _also_, small, back, within-out}
 use Rattle.whole.specs.Bound.{Within}
 use Rattle.whole.specs.Tests.{out}
 use Rattle.sheet.specs.declared.Point.{Point}
 use Rattle.sheet.specs.Expansions.{det}
 use Rattle.kernel.specs.Bounds.{Row, NarrowSizes}
-use Rattle.kernel.proofs.Handed.{within-out}
 
 module _ {p : Point} (h : NarrowSizes p) where
   pub mm : Row (p .w) (p .mx) (p .my)

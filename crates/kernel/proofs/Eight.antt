@@ -14,13 +14,12 @@ use Rattle.whole.specs.Sign.{sgn}
 use Rattle.whole.specs.SignLaws.{sgn-mul-self}
 use Rattle.whole.specs.Ring.{Expr, var, _⊖_, _⊗_}
 use Rattle.whole.specs.Flat.{none, _also_, gives, held}
-use Rattle.whole.specs.Tests.{out, out-is}
+use Rattle.whole.specs.Tests.{out, out-is, Fit, gave}
 use Rattle.sheet.specs.Points.{size}
 use Rattle.sheet.specs.Crossing.{Meeting}
 use Rattle.sheet.specs.Answers.{meetingNumbers}
 use Rattle.kernel.specs.Bounds.{Near, Apart}
 use Rattle.kernel.specs.Pieces.{piece}
-use Rattle.kernel.proofs.Handed.{Fit, gave}
 
 abbrev pub dxE : Expr
 dxE = var 2 ⊖ var 0

@@ -1,32 +1,11 @@
--- A number comes out of a local as it went in: so what a call gave is read, and a struct that is handed on number by number is the
--- struct. To cite:
---   Fit                       what is known of such a number: of a call's result it is `.ok`
---   gave                      what a call gave, as it is read: `gave (c .f .ok) (c .f .ensures)`
---   within-out                a bounded number is within its bound as it is read
+-- A struct that is handed on number by number is the struct: each number comes out of a local as it went in. To cite:
 --   objectOut, pointOut       the struct of numbers that come out of locals
 --   object, point             from what is known of each number: `object o (s .fits .kind .sfits) (s .fits .px .sfits) ..`
 --   object-told, point-told   from what `struct-told` says of all five: `object-told o (c .struct-told .given)`
-use mathlib.Core.Path.{_≡_, _∙_}
-use Prim.Native.Nat.{ℕ, _<_, _^_}
-use lib.Dec.{T, ltb}
-use lib.IntN.{ℤ}
-use lib.Signed.{mag}
-use mir.Syntax.{w64}
-use mir.Val.{hbits}
-use Rattle.whole.specs.Bound.{Within, w-is}
-use Rattle.whole.specs.Flat.{back}
-use Rattle.whole.specs.Tests.{out, out-ok}
+use mathlib.Core.Path.{_≡_}
+use Rattle.whole.specs.Tests.{out, out-ok, Fit}
 use Rattle.sheet.specs.declared.Object.{Object}
 use Rattle.sheet.specs.declared.Point.{Point}
-
-abbrev pub Fit : ℤ → Type 0
-Fit z = mag z < 2 ^ hbits w64
-
-pub gave : {r z : ℤ} → Fit r → r ≡ z → out r ≡ z
-gave {r} h e = out-ok r h ∙ e
-
-pub within-out : {n : ℕ} {z : ℤ} → Within n z → T (ltb n (2 ^ 63)) → Within n (out z)
-within-out h t = w-is (back h t) h
 
 abbrev pub objectOut : Object → Object
 objectOut o = record { kind = out (o .kind); px = out (o .px); py = out (o .py); qx = out (o .qx); qy = out (o .qy) }

@@ -1,16 +1,10 @@
 -- The bounds of numbers that are not refused. To cite:
---   not-refused      a refusal is 0 where the code's test of a call's result finds 0
 --   order-accepts, turn-accepts, side-accepts   of points, narrow points, and an object with a point
 -- Assumes nothing.
-use mathlib.Core.Path.{_≡_, sym, _∙_}
+use mathlib.Core.Path.{_≡_}
 use mathlib.Core.Bool.{true}
-use Prim.Native.Nat.{_<_, _^_}
-use lib.IntN.{ℤ, pos}
-use lib.Signed.{mag}
-use mir.Syntax.{w64}
-use mir.Val.{ofZ, hbits}
+use lib.IntN.{pos}
 use Rattle.whole.specs.Bound.{w-lit}
-use Rattle.whole.specs.Tests.{fits-ok}
 use Rattle.sheet.specs.declared.Object.{Object}
 use Rattle.sheet.specs.declared.Point.{Point}
 use Rattle.sheet.specs.Refusal.{Accepted}
@@ -19,10 +13,6 @@ use Rattle.sheet.specs.PointsLaws.{Sizes, narrow-is, point-is, point-sizes}
 use Rattle.sheet.specs.Signs.{orderRefusal, turnRefusal, sideSignRefusal}
 use Rattle.sheet.specs.AcceptsLaws.{order-taken, turn-taken, side-taken}
 use Rattle.kernel.specs.Bounds.{NarrowSizes}
-use Rattle.kernel.specs.Kinds.{lit-taken}
-
-pub not-refused : {r n : ℤ} → mag r < 2 ^ hbits w64 → r ≡ n → ofZ w64 r ≡ 0 → n ≡ pos 0
-not-refused {r} h e z = sym e ∙ lit-taken 0 tt (fits-ok r h) z
 
 sizes : (p : Point) → isPoint p ≡ true → Sizes p
 sizes p h = point-sizes (point-is p .0 h)

@@ -15,7 +15,8 @@ use lib.IntN.{ℤ, pos, negℤ, natAbs, _+ℤ_, _-ℤ_, _*ℤ_, *ℤ-zero}
 use lib.Signed.{ltZ, leZ, _<ℤ_, clashℤ}
 use Rattle.whole.specs.Sign.{sgn}
 use Rattle.whole.specs.SignLaws.{sgn-abs, size-above}
-use Rattle.whole.specs.Tests.{eqZ, eq-eqZ, ne-eqZ, lt-ltZ, le-ltZ, le-leZ, lt-leZ}
+use Rattle.whole.specs.Flag.{eqZ}
+use Rattle.whole.specs.Tests.{eq-eqZ, ne-eqZ, lt-ltZ, le-ltZ, le-leZ, lt-leZ}
 use Rattle.sheet.specs.declared.Point.{Point}
 use Rattle.sheet.specs.Ends.{flat, steep, farRaw}
 use Rattle.sheet.specs.EndsLaws.{Far, far, flatter, steeper, tie-flat, tie-steep}

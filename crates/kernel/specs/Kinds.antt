@@ -1,18 +1,14 @@
 -- An accepted object by the tests of its kind. To cite:
---   lit-taken                   the code's test of a number against a literal, as an equation
 --   accepted-pair, accepted-side   not a side: p and q are given points that differ; a side: which of the four it is
 --   first-side, last-side, first-line, first-given, last-given, last-far   the ends by the kind
 --   side-pair                   the side of one that is not a frame side
 --   side-one, side-two, side-three, side-four   the side of a number, by the code's tests
 -- Assumes nothing.
 use mathlib.Core.Path.{_≡_, sym, _∙_, ap}
-use Prim.Native.Nat.{ℕ, _^_}
-use lib.Dec.{T, ltb}
 use lib.IntN.{ℤ, pos}
 use mir.Syntax.{w64}
 use mir.Val.{SFits, ofZ}
-use Rattle.whole.specs.Bound.{fits64, w-pos}
-use Rattle.whole.specs.Tests.{ne-eqZ, eq-taken, eq-left}
+use Rattle.whole.specs.Tests.{ne-eqZ, eq-left, lit-taken}
 use Rattle.sheet.specs.declared.Object.{Object}
 use Rattle.sheet.specs.declared.Point.{Point}
 use Rattle.sheet.specs.Figure.{_⇀_, left, bottom, right, top, sideOf, first, second, figure}
@@ -22,9 +18,6 @@ use Rattle.sheet.specs.Points.{given}
 use Rattle.sheet.specs.Signs.{turn, sideSign}
 use Rattle.sheet.specs.Expansions.{side-of-figure}
 use Rattle.sheet.specs.Ends.{farEnd, reverse, begins, nextSide, firstOf, lastOf, firstEnd, lastEnd}
-
-pub lit-taken : (n : ℕ) → T (ltb n (2 ^ 63)) → {x : ℤ} → SFits w64 x → ofZ w64 x ≡ n → x ≡ pos n
-lit-taken n t f e = eq-taken f (fits64 (w-pos n) t) e
 
 module _ {n : ℤ} (f : SFits w64 n) where
   pub side-one : ofZ w64 n ≡ 1 → sideOf n ≡ left

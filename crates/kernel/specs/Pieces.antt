@@ -20,7 +20,8 @@ use Rattle.whole.specs.Cert.{mul-cancel}
 use Rattle.whole.specs.Order.{≤-<-trans, <-≤-trans, <-≤}
 use Rattle.whole.specs.Flat.{small}
 use Rattle.whole.specs.Bound.{Within, w-upper, w-lower, w-pos, w-negsuc, w-lit}
-use Rattle.whole.specs.Tests.{eqZ, eq-eqZ, ne-eqZ, lt-ltZ, le-ltZ}
+use Rattle.whole.specs.Flag.{eqZ}
+use Rattle.whole.specs.Tests.{eq-eqZ, ne-eqZ, lt-ltZ, le-ltZ}
 use Rattle.sheet.specs.declared.Object.{Object}
 use Rattle.sheet.specs.declared.Point.{Point}
 use Rattle.sheet.specs.Figure.{Vec, _⇀_, Side, left, bottom, right, top, outX, outY, Figure, sideOf, first, second, figure}

@@ -10,7 +10,8 @@ use native.Mathlib.Omega.{arith}
 use lib.Dec.{ltb}
 use lib.IntN.{ℤ, pos}
 use borrow.Author.Tests.{ltb-true, lt-ltb, le-ltb}
-use Rattle.whole.specs.Tests.{eqZ, eqZ-true}
+use Rattle.whole.specs.Flag.{eqZ}
+use Rattle.whole.specs.Tests.{eqZ-true}
 use Rattle.sheet.specs.Signs.{orElse}
 use Rattle.sheet.specs.Lists.{rowWidth, countOf, listRefusal, indexRefusal}
 use Rattle.sheet.specs.ListsLaws.{Listable, listable}

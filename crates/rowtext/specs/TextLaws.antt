@@ -7,6 +7,7 @@
 --   numbers-one-more            one number more at the end
 --   shared-point, shared-many, row-from   the text of the row that begins at a place of a list
 --   rows-more                   one row more at the end
+--   Fit                         every number of a list fits an i64
 --   row-short, rows-short       a row of i64 numbers is at most rowMost bytes long, and k rows k times that
 -- Assumes nothing.
 use mathlib.Core.Path.{_≡_, refl, sym, _∙_, ap, ap₂, subst}
@@ -25,7 +26,8 @@ use borrow.Author.Tests.{lt-ltb, le-ltb, ltb-true, ltb-false}
 use mir.Syntax.{w64}
 use mir.Val.{SFits}
 use Rattle.whole.specs.Bound.{fits64, w-pos}
-use Rattle.whole.specs.Tests.{out, out-is, eqZ, ne-eqZ}
+use Rattle.whole.specs.Flag.{eqZ}
+use Rattle.whole.specs.Tests.{out, out-is, ne-eqZ}
 use Rattle.sheet.specs.Lists.{rowWidth}
 use Rattle.rowtext.specs.Text.{newline, blank, zeroDigit, pointWord, manyWord, digitsTo, digits, sized, signed, field, numbers, sharedText, rowAt, rowText, rowsTo, countLine}
 use Rattle.rowtext.specs.Put.{numberMost, fieldMost, rowMost}

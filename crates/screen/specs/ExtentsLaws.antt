@@ -16,7 +16,8 @@ use lib.IntN.{ℤ, pos, negsuc, natAbs}
 use lib.Signed.{_<ℤ_}
 use Rattle.whole.specs.Bound.{Within, w-upper, w-lower, w-lit, w-pos}
 use Rattle.whole.specs.Order.{≤-<-trans, <-≤-trans}
-use Rattle.whole.specs.Tests.{eqZ, cond-by, lt-ltZ}
+use Rattle.whole.specs.Flag.{eqZ}
+use Rattle.whole.specs.Tests.{cond-by, lt-ltZ}
 use Rattle.sheet.specs.declared.Object.{Object}
 use Rattle.sheet.specs.Figure.{Vec, Figure, segment, ray, line, side, sideOf, first, second, figure}
 use Rattle.sheet.specs.Refusal.{Accepted}

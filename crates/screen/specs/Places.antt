@@ -2,11 +2,10 @@
 use mathlib.Core.Bool.{Bool, cond, not, _&&_}
 use mathlib.Core.List.{[], _∷_}
 use lib.IntN.{ℤ, pos, negℤ}
-use Rattle.whole.specs.Tests.{eqZ}
+use Rattle.whole.specs.Flag.{eqZ}
 use Rattle.sheet.specs.declared.Point.{Point}
-use Rattle.sheet.specs.Figure.{Side, left, bottom, right, top}
+use Rattle.sheet.specs.Figure.{Side, left, bottom, right, top, sideNumber}
 use Rattle.sheet.specs.Ends.{nextSide}
-use Rattle.sheet.specs.RefusalLaws.{sideNumber}
 use Rattle.sheet.specs.Points.{standard}
 use Rattle.screen.specs.declared.Place.{Place}
 use Rattle.screen.specs.declared.Place.the-variants.{At, Edge, Refused}

@@ -17,14 +17,14 @@ use lib.IntN.{ℤ, pos, negsuc, negℤ, natAbs}
 use lib.Signed.{_<ℤ_}
 use Rattle.whole.specs.Bound.{w-lit}
 use Rattle.whole.specs.Order.{pp-dest}
-use Rattle.whole.specs.Tests.{eqZ, eq-eqZ, ne-eqZ, eqZ-true}
+use Rattle.whole.specs.Flag.{eqZ}
+use Rattle.whole.specs.Tests.{eq-eqZ, ne-eqZ, eqZ-true}
 use Rattle.sheet.specs.declared.Point.{Point}
-use Rattle.sheet.specs.Figure.{Side, left, bottom, right, top}
+use Rattle.sheet.specs.Figure.{Side, left, bottom, right, top, sideNumber}
 use Rattle.sheet.specs.Ends.{begins}
 use Rattle.sheet.specs.Flags.{both, not-both}
 use Rattle.sheet.specs.Points.{size, standard}
 use Rattle.sheet.specs.PointsLaws.{Standard, OnEdge, Frame, APoint, a-standard, a-frame, point-sizes, standard-is}
-use Rattle.sheet.specs.RefusalLaws.{sideNumber}
 use Rattle.screen.specs.declared.Place.{Place}
 use Rattle.screen.specs.declared.Place.the-variants.{At, Edge, Refused}
 use Rattle.screen.specs.QuotientLaws.{Parts}

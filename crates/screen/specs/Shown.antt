@@ -6,10 +6,9 @@ use mathlib.Core.Bool.{Bool, true, false, cond}
 use lib.IntN.{pos}
 use lib.Ieee.{Float}
 use Rattle.sheet.specs.declared.Point.{Point}
-use Rattle.sheet.specs.Figure.{Side}
+use Rattle.sheet.specs.Figure.{Side, sideNumber}
 use Rattle.sheet.specs.Points.{isPoint, pointRefusal}
 use Rattle.sheet.specs.PointsLaws.{Standard, Frame, APoint, a-standard, a-frame, standard-is, point-is}
-use Rattle.sheet.specs.RefusalLaws.{sideNumber}
 use Rattle.screen.specs.declared.Place.{Place}
 use Rattle.screen.specs.declared.Place.the-variants.{At, Edge, Refused}
 use Rattle.screen.specs.Quotient.{Near}

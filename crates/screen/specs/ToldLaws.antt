@@ -1,6 +1,5 @@
 -- The laws of what is told. To cite:
 --   told-refused, told-accepted   what a refused or an accepted call tells, from the code's test of the refusal
---   none-refused                  the number is 0 where the test finds none
 --   as-many                       what tells the same tells as many floats
 -- Assumes nothing.
 use mathlib.Core.Path.{_≡_, sym, _∙_, ap}
@@ -9,18 +8,13 @@ use lib.IntN.{ℤ, pos}
 use lib.ListN.{length}
 use mir.Syntax.{w64}
 use mir.Val.{SFits, ofZ}
-use Rattle.whole.specs.Bound.{fits64, w-pos}
-use Rattle.whole.specs.Tests.{eq-eqZ, ne-eqZ, eq-taken, eq-left, out, out-is}
+use Rattle.whole.specs.Tests.{eq-eqZ, ne-eqZ, eq-left, out, out-is, lit-taken}
 use Rattle.screen.specs.Told.{Told, refusal, answered}
 
 pub as-many : {s t : Told} → s ≡ t → length (s .floats) ≡ length (t .floats)
 as-many e = ap (λ (t : Told). length (t .floats)) e
 
 -- r is a call's result, and the code tests whether it is 0
-module _ {r n : ℤ} (f : SFits w64 r) (e : r ≡ n) where
-  pub none-refused : ofZ w64 r ≡ 0 → n ≡ pos 0
-  none-refused z = sym e ∙ eq-taken f (fits64 (w-pos 0) tt) z
-
 module _ {r n : ℤ} (t : Told) (f : SFits w64 r) (e : r ≡ n) where
   pub told-refused : (ofZ w64 r ≡ 0 → ⊥) → refusal (out r) ≡ answered n t
   told-refused d =
@@ -29,5 +23,5 @@ module _ {r n : ℤ} (t : Told) (f : SFits w64 r) (e : r ≡ n) where
 
   pub told-accepted : ofZ w64 r ≡ 0 → t ≡ answered n t
   told-accepted z =
-      let none = eq-eqZ {a = n} {b = pos 0} (none-refused f e z) in
+      let none = eq-eqZ {a = n} {b = pos 0} (sym e ∙ lit-taken 0 tt f z) in
       sym (ap (λ (b : Bool). cond b t (refusal n)) none)

@@ -6,7 +6,7 @@ use sheet::Point;
 ghost use mathlib.Core.Path.{_≡_};
 ghost use Rattle.sheet.specs.Points.{pointRefusal};
 ghost use Rattle.sheet.specs.PointsLaws.{APoint};
-ghost use Rattle.sheet.specs.RefusalLaws.{sideNumber};
+ghost use Rattle.sheet.specs.Figure.{sideNumber};
 ghost use Rattle.screen.specs.Quotient.{quotient};
 ghost use Rattle.screen.specs.QuotientLaws.{Parts};
 ghost use Rattle.screen.specs.Told.{answered};

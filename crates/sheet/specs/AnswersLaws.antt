@@ -1,9 +1,10 @@
 -- The laws of answers. To cite:
 --   refused, accepted           what `answer` says where the number is not 0, and where it is
 --   says-refused, says-accepted the same from the code's test of a call's result
+--   not-refused                 a refusal is 0 where the code's test of a call's result finds 0
 --   or-zero                     several checks in turn find nothing
 --   refused-first, refused-next   the first that finds something, from the code's test; what comes after one that finds nothing
---   point-one                   no two points have the same five numbers
+--   object-one, point-one       no two objects, and no two points, have the same five numbers
 --   made-one, ends-one, signed-one, crossing-one   no two values of an answer say the same numbers
 -- Assumes nothing.
 use mathlib.Core.Path.{_≡_, refl, sym, _∙_, ap, ap₂}
@@ -13,8 +14,8 @@ use native.Mathlib.Omega.{arith}
 use lib.IntN.{ℤ, pos}
 use mir.Syntax.{w64}
 use mir.Val.{SFits, ofZ}
-use Rattle.whole.specs.Bound.{fits64, w-pos}
-use Rattle.whole.specs.Tests.{cond-by, eqZ, eqZ-true, eqZ-false, eq-eqZ, ne-eqZ, eq-taken, eq-left, out, out-is}
+use Rattle.whole.specs.Flag.{eqZ}
+use Rattle.whole.specs.Tests.{cond-by, eqZ-true, eqZ-false, eq-eqZ, ne-eqZ, eq-left, out, out-is, Fit, fits-ok, lit-taken}
 use Rattle.sheet.specs.declared.Object.{Object}
 use Rattle.sheet.specs.declared.Point.{Point}
 use Rattle.sheet.specs.declared.Made.{Made}
@@ -43,7 +44,10 @@ says-refused {r} {n} values f e d =
 
 pub says-accepted :
     {r n : ℤ} (values : List ℤ) → SFits w64 r → r ≡ n → ofZ w64 r ≡ 0 → pos 0 ∷ values ≡ answer n values
-says-accepted values f e z = sym (accepted values (sym e ∙ eq-taken f (fits64 (w-pos 0) tt) z))
+says-accepted values f e z = sym (accepted values (sym e ∙ lit-taken 0 tt f z))
+
+pub not-refused : {r n : ℤ} → Fit r → r ≡ n → ofZ w64 r ≡ 0 → n ≡ pos 0
+not-refused {r} h e z = sym e ∙ lit-taken 0 tt (fits-ok r h) z
 
 -- several checks in turn find nothing
 pub or-zero : (n m : ℤ) → orElse n m ≡ pos 0 → (n ≡ pos 0) × (m ≡ pos 0)
@@ -58,7 +62,7 @@ refused-first {r} {n} m e d = e ∙ sym (or-first m (λ z. eq-left {x = r} {y = 
     or-first m d = simp (ne-eqZ d)
 
 pub refused-next : {r n : ℤ} (m : ℤ) → SFits w64 r → r ≡ n → ofZ w64 r ≡ 0 → orElse n m ≡ m
-refused-next m f e z = or-next m (sym e ∙ eq-taken f (fits64 (w-pos 0) tt) z)
+refused-next m f e z = or-next m (sym e ∙ lit-taken 0 tt f z)
   where
     or-next : {n : ℤ} (m : ℤ) → n ≡ pos 0 → orElse n m ≡ m
     or-next m e = simp (eq-eqZ e)

@@ -3,7 +3,7 @@ use mathlib.Core.Bool.{Bool, true, cond, _&&_}
 use lib.IntN.{ℤ, pos, _+ℤ_, _-ℤ_, _*ℤ_}
 use lib.Signed.{ltZ, leZ}
 use Rattle.whole.specs.Sign.{sgn}
-use Rattle.whole.specs.Tests.{eqZ}
+use Rattle.whole.specs.Flag.{eqZ}
 use Rattle.sheet.specs.declared.Object.{Object}
 use Rattle.sheet.specs.declared.Point.{Point}
 use Rattle.sheet.specs.Figure.{Vec, _⇀_, Side, outX, outY, Figure, segment, ray, line, side, figure}

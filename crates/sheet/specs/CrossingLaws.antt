@@ -17,7 +17,8 @@ use Rattle.whole.specs.Cert.{z-eq, z-add, eq-cert}
 use Rattle.whole.specs.Sign.{sgn}
 use Rattle.whole.specs.SignLaws.{sgn-mul-self, size-above}
 use Rattle.whole.specs.Bound.{w-sub, w-mul, w-sgn, w-size}
-use Rattle.whole.specs.Tests.{cond-by, eqZ, eqZ-true, eqZ-false}
+use Rattle.whole.specs.Flag.{eqZ}
+use Rattle.whole.specs.Tests.{cond-by, eqZ-true, eqZ-false}
 use Rattle.sheet.specs.declared.Object.{Object}
 use Rattle.sheet.specs.declared.Point.{Point}
 use Rattle.sheet.specs.Figure.{Vec, _⇀_, Side, left, bottom, right, top, outX, outY, Figure, side, figure}

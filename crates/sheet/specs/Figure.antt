@@ -1,7 +1,7 @@
 -- What the five numbers of an object mean: a segment, a ray or a line by two given points, or a side of the frame.
 use mathlib.Core.Bool.{cond}
 use lib.IntN.{ℤ, pos, negsuc, _-ℤ_}
-use Rattle.whole.specs.Tests.{eqZ}
+use Rattle.whole.specs.Flag.{eqZ}
 use Rattle.sheet.specs.declared.Object.{Object}
 
 -- a given point or a direction, by whole numbers
@@ -14,9 +14,15 @@ abbrev pub _⇀_ : Vec → Vec → Vec
 p ⇀ q = record { x = q .x -ℤ p .x; y = q .y -ℤ p .y }
 
 infix 7 _⇀_
--- "1 left .. 2 bottom .. 3 right .. 4 top"
 pub data Side : Type 0 where
   left bottom right top : Side
+
+-- "1 left .. 2 bottom .. 3 right .. 4 top"
+abbrev pub sideNumber : Side → ℤ
+sideNumber left = pos 1
+sideNumber bottom = pos 2
+sideNumber right = pos 3
+sideNumber top = pos 4
 
 -- the way out of the square over each side
 abbrev pub outX : Side → ℤ
@@ -36,6 +42,7 @@ pub data Figure : Type 0 where
   segment ray line : Vec → Vec → Figure
   side : Side → Figure
 
+-- the side of a number
 unfoldable pub sideOf : ℤ → Side
 sideOf n = cond (eqZ n (pos 1)) left (cond (eqZ n (pos 2)) bottom (cond (eqZ n (pos 3)) right top))
 

@@ -12,7 +12,8 @@ use lib.Dec.{eqb}
 use lib.IntN.{ℤ, pos}
 use lib.Signed.{_≤ℤ_, _<ℤ_, ltZ, leZ}
 use borrow.Author.Tests.{eqb-true, eq-eqb}
-use Rattle.whole.specs.Tests.{eqZ, eqZ-true, eqZ-false, eq-eqZ, ne-eqZ, ltZ-true, lt-ltZ, ltZ-false, le-ltZ, leZ-true, le-leZ, leZ-false, lt-leZ}
+use Rattle.whole.specs.Flag.{eqZ}
+use Rattle.whole.specs.Tests.{eqZ-true, eqZ-false, eq-eqZ, ne-eqZ, ltZ-true, lt-ltZ, ltZ-false, le-ltZ, leZ-true, le-leZ, leZ-false, lt-leZ}
 
 pub both : (s t : Bool) → ((s && t) ≡ true) ↔ ((s ≡ true) × (t ≡ true))
 both true t = (λ h. (refl, h), λ h. h .1)

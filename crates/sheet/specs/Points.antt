@@ -9,7 +9,7 @@ use lib.Signed.{ltZ, leZ, quotZ}
 use Rattle.whole.specs.Sign.{sgn}
 use Rattle.whole.specs.Divisor.{gcdOf}
 use Rattle.whole.specs.Poly.{Poly}
-use Rattle.whole.specs.Tests.{eqZ}
+use Rattle.whole.specs.Flag.{eqZ}
 use Rattle.sheet.specs.declared.Point.{Point}
 use Rattle.sheet.specs.Limits.{standardW, standardN, frameW, frameN}
 use Rattle.sheet.specs.Figure.{Vec}

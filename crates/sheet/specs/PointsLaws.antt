@@ -23,7 +23,7 @@ use Rattle.whole.specs.Cert.{pp-cancel, mul-cancel, <-cancel, zero-cancel}
 use Rattle.whole.specs.Sign.{sgn}
 use Rattle.whole.specs.SignLaws.{sgn-mul-pos}
 use Rattle.whole.specs.Bound.{Within, w-is, w-intro, w-upper, w-lower, w-pos, w-lit, w-quot, natAbs-mul}
-use Rattle.whole.specs.Tests.{eqZ}
+use Rattle.whole.specs.Flag.{eqZ}
 use Rattle.whole.specs.Divisor.{DividesAll, none, _also_}
 use Rattle.whole.specs.DivisorLaws.{gcdOf-is, gcdOf-above, over-back, over-one, same-numbers}
 use Rattle.sheet.specs.declared.Point.{Point}

@@ -2,7 +2,7 @@
 --   Small, Proper            both coordinates at most n; two given points within 2,000 that differ
 --   Taken, accepted-taken    an accepted object by its kind: what figure it is, and what holds of its numbers
 --   Drawn, accepted-drawn    a figure that a sheet takes: that of an accepted object
---   pair-proper, side-proper   refusal 0 of a pair, of a side;  sideNumber, side-of  the side of a number
+--   pair-proper, side-proper   refusal 0 of a pair, of a side;  side-of  the side of its own number
 --   kind-segment, kind-ray, kind-line, kind-side   the figure by the kind
 -- Assumes nothing.
 use mathlib.Core.Path.{_≡_, refl, sym, _∙_, ap, subst}
@@ -14,9 +14,9 @@ use lib.IntN.{ℤ, pos, _+ℤ_}
 use lib.Signed.{_≤ℤ_}
 use Rattle.whole.specs.Order.{le-dest}
 use Rattle.whole.specs.Bound.{Within, w-intro}
-use Rattle.whole.specs.Tests.{eqZ}
+use Rattle.whole.specs.Flag.{eqZ}
 use Rattle.sheet.specs.declared.Object.{Object}
-use Rattle.sheet.specs.Figure.{Vec, Side, left, bottom, right, top, Figure, segment, ray, line, side, sideOf, first, second, figure}
+use Rattle.sheet.specs.Figure.{Vec, Side, left, bottom, right, top, Figure, segment, ray, line, side, sideNumber, sideOf, first, second, figure}
 use Rattle.sheet.specs.Refusal.{pairRefusal, sideRefusal, objectRefusal, Accepted}
 use Rattle.sheet.specs.Flags.{flags}
 
@@ -64,12 +64,6 @@ one-to-four z h k = let w = le-dest h in go (w .0) (w .1)
         absurd (omega arith)
 
 -- ---- sides
-
-abbrev pub sideNumber : Side → ℤ
-sideNumber left = pos 1
-sideNumber bottom = pos 2
-sideNumber right = pos 3
-sideNumber top = pos 4
 
 pub side-of : (n : Side) → sideOf (sideNumber n) ≡ n
 unfolding sideOf

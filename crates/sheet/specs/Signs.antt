@@ -2,7 +2,7 @@
 use mathlib.Core.Bool.{cond, _&&_}
 use lib.IntN.{ℤ, pos}
 use Rattle.whole.specs.Poly.{Poly, _⊞_, _⊟_, _⊠_, first, leading}
-use Rattle.whole.specs.Tests.{eqZ}
+use Rattle.whole.specs.Flag.{eqZ}
 use Rattle.sheet.specs.declared.Object.{Object}
 use Rattle.sheet.specs.declared.Point.{Point}
 use Rattle.sheet.specs.Figure.{Figure, segment, ray, line, side, figure}

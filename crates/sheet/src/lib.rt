@@ -2,13 +2,11 @@
 pub mod lists;
 
 ghost use mathlib.Core.Path.{_≡_};
-ghost use mathlib.Core.Bool.{_||_, _&&_};
 ghost use mathlib.Core.List.{[], _∷_};
-ghost use lib.IntN.{ℤ, pos, negℤ};
-ghost use Rattle.whole.specs.Tests.{eqZ};
+ghost use lib.IntN.{pos, negℤ};
 ghost use Rattle.sheet.specs.Limits.{reach, most};
 ghost use Rattle.sheet.specs.Refusal.{outside, anyBeyond, equal, noSide, pairRefusal, sideRefusal, refusalOf, objectRefusal};
-ghost use Rattle.sheet.specs.Answers.{answer, objectNumbers, madeSays};
+ghost use Rattle.sheet.specs.Answers.{answer, madeSays};
 ghost use Rattle.sheet.specs.Lists.{width};
 
 // An object of a sheet. Kind 1 is a segment, 2 a ray, 3 a line, each from p toward q; kind 4 is the frame's side of number px.
@@ -139,7 +137,7 @@ fn is_outside(lo: i64, hi: i64, z: i64) -> bool
     (z < lo) | (hi < z)
 }
 
-// Beyond the object type's own limit, which the bracket ties to the paper's.
+// Beyond the object type's own limit. That it is the paper's is shown in any_beyond, where the paper's `beyond` is asked for.
 fn is_beyond(z: i64) -> bool
     ensures { λ r. do ⌜ r ≡ outside (negℤ (← ⟦Object::REACH⟧ .entry)) (← ⟦Object::REACH⟧ .entry) z ⌝ }
 {

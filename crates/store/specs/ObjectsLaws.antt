@@ -11,6 +11,7 @@ use native.Mathlib.Omega.{arith}
 use lib.IntN.{ℤ, pos}
 use lib.ListN.{length, drop}
 use lib.Seq.{drop-drop}
+use Rattle.sheet.specs.AnswersLaws.{not-refused}
 use Rattle.sheet.specs.declared.Object.{Object}
 use Rattle.sheet.specs.Lists.{width}
 use Rattle.store.specs.Stored.{Reading, got, no, refused, before, andThen, counted, readObject, readObjects, readCount, readDrawing}
@@ -20,8 +21,7 @@ use Rattle.store.specs.SureLaws as sure
 use lib.Signed.{mag}
 use mir.Syntax.{w64}
 use mir.Val.{ofZ}
-use Rattle.whole.specs.Bound.{fits64, w-pos}
-use Rattle.whole.specs.Tests.{eqZ-false, fits-ok, eq-taken, eq-left}
+use Rattle.whole.specs.Tests.{eqZ-false, eq-left}
 
 pub objects-suc : (k : ℕ) (bs : List ℕ) → 0 < k → readObjects k bs ≡ andThen (readObject bs) (λ rest. readObjects (k - 1) rest)
 unfolding readObjects
@@ -77,4 +77,4 @@ module _ {bs : List ℕ} {n : ℤ} {v size : ℕ} (t : Tells bs (readCount bs) n
 
   pub drawing-counted : ofZ w64 n ≡ 0 → readDrawing bs ≡ readObjects v (drop size bs)
   unfolding readDrawing
-  drawing-counted e = ap counted (t .taken (eq-taken (fits-ok n ok) (fits64 (w-pos 0) tt) e))
+  drawing-counted e = ap counted (t .taken (not-refused ok refl e))

@@ -16,8 +16,8 @@ use lib.Signed.{mag}
 use lib.ListN.{length, drop, length-drop, drop-of-length-le}
 use mir.Syntax.{w64}
 use mir.Val.{ofZ}
-use Rattle.whole.specs.Bound.{fits64, w-pos}
-use Rattle.whole.specs.Tests.{fits-ok, eq-taken, eq-left}
+use Rattle.whole.specs.Tests.{eq-left}
+use Rattle.sheet.specs.AnswersLaws.{not-refused}
 use Rattle.sheet.specs.declared.Object.{Object}
 use Rattle.store.specs.declared.Place.{Place}
 use Rattle.store.specs.declared.Item.the-variants.{One, End, Refused}
@@ -69,7 +69,7 @@ module _ (bs : List ℕ) (p : Place) (left at : ℕ) where
         omega (arith, length-drop size (drop s bs), length-drop s bs, t .within, e) in
         step-suc h
         ∙ ap (λ (l : List ℕ). stepObject bs p (left - 1) (readObject l)) here
-        ∙ ap (stepObject bs p (left - 1)) (t .taken (eq-taken (fits-ok n ok) (fits64 (w-pos 0) tt) z))
+        ∙ ap (stepObject bs p (left - 1)) (t .taken (not-refused ok refl z))
         ∙ ap (λ (k : ℕ). stepTo (One o) (record { begun = true; left = left - 1; at = k })) place
 
 -- the first of several calls
@@ -87,4 +87,4 @@ module _ (bs : List ℕ) (p : Place) {n : ℤ} {v size : ℕ} (t : Tells bs (rea
   count-taken b z =
       let place : placeOf bs (drop size bs) ≡ size = omega (arith, length-drop size bs, t .within) in
       simp b
-      (ap (stepCounted bs p) (t .taken (eq-taken (fits-ok n ok) (fits64 (w-pos 0) tt) z)) ∙ ap (stepFrom bs p v) place)
+      (ap (stepCounted bs p) (t .taken (not-refused ok refl z)) ∙ ap (stepFrom bs p v) place)

@@ -16,8 +16,9 @@ use lib.Seq.{drop-drop, take-all}
 use lib.Signed.{mag}
 use mir.Syntax.{w64}
 use mir.Val.{ofZ}
-use Rattle.whole.specs.Bound.{fits64, w-pos}
-use Rattle.whole.specs.Tests.{eqZ, eqZ-false, out, out-ok, fits-ok, eq-taken, eq-left}
+use Rattle.whole.specs.Flag.{eqZ}
+use Rattle.whole.specs.Tests.{eqZ-false, out, out-ok, eq-left}
+use Rattle.sheet.specs.AnswersLaws.{not-refused}
 use Rattle.store.specs.Stored.{Reading, got, no, next}
 use Rattle.store.specs.Tells.{Tells}
 
@@ -41,7 +42,7 @@ module _ {A B : Type 0} {bs : List ℕ} {r : Reading A} {n : ℤ} {v : A} {size 
       }
 
   pub on-taken : ofZ w64 n ≡ 0 → next r f ≡ f v (drop size bs)
-  on-taken e = ap (λ (x : Reading A). next x f) (t .taken (eq-taken (fits-ok n ok) (fits64 (w-pos 0) tt) e))
+  on-taken e = ap (λ (x : Reading A). next x f) (t .taken (not-refused ok refl e))
 
   -- what is read next tells of the whole
   pub tells-on :

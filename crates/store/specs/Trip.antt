@@ -1,9 +1,10 @@
 -- Numbers and coordinates, written and read again, and back. To cite:
---   Bytes            each number of a list is a byte
---   From             what was read, with what was written for it in front of the rest; or a refusal
+--   Bytes, behind-bytes   each number of a list is a byte, and so of its end
+--   From                  what was read, with what was written for it in front of the rest; or a refusal
 --   number-back, number-from           a stored number
 --   unzigzag-zigzag, zigzag-unzigzag   what is stored for a coordinate
---   coordinate-back, coordinate-from, point-back, point-from
+--   coordinate-back, coordinate-from   a coordinate
+--   writeSpot, Near, point-back, point-from   a point, and that it is within the limits
 -- Assumes nothing.
 use mathlib.Core.Path.{_≡_, refl, sym, ap, subst, _∙_}
 use mathlib.Core.Bool.{Bool, true, false, cond}

@@ -14,12 +14,12 @@ use lib.Dec.{ltb, ltb→lt}
 use lib.IntN.{ℤ, pos, negsuc, natAbs}
 use lib.Signed.{_<ℤ_, _≤ℤ_}
 use lib.ListN.{length, length-append}
-use Rattle.whole.specs.Tests.{eqZ}
+use Rattle.whole.specs.Flag.{eqZ}
 use Rattle.sheet.specs.declared.Object.{Object}
 use Rattle.sheet.specs.Limits.{reachSize}
-use Rattle.sheet.specs.Figure.{Side, left, bottom, right, top}
+use Rattle.sheet.specs.Figure.{Side, left, bottom, right, top, sideNumber}
 use Rattle.sheet.specs.Refusal.{objectRefusal}
-use Rattle.sheet.specs.RefusalLaws.{Proper, Taken, a-segment, a-ray, a-line, a-side, accepted-taken, sideNumber}
+use Rattle.sheet.specs.RefusalLaws.{Proper, Taken, a-segment, a-ray, a-line, a-side, accepted-taken}
 use Rattle.store.specs.Stored.{writeGroups, writeNumber, zigzag, writePoint, writeShape}
 use Rattle.store.specs.Bounded.{Bounded}
 

@@ -13,7 +13,8 @@ use native.Mathlib.Omega.{arith}
 use lib.Dec.{ltb}
 use lib.IntN.{ℤ, pos, negsuc, natAbs, _+ℤ_}
 use Rattle.whole.specs.Bound.{Within}
-use Rattle.whole.specs.Tests.{eqZ, eqZ-true, eqZ-false, cond-by}
+use Rattle.whole.specs.Flag.{eqZ}
+use Rattle.whole.specs.Tests.{eqZ-true, eqZ-false, cond-by}
 use Rattle.sheet.specs.Refusal.{beyond, objectRefusal}
 use Rattle.sheet.specs.Signs.{orElse, sideSign, sideSignRefusal}
 use Rattle.sheet.specs.SignsLaws.{side-sign-within}

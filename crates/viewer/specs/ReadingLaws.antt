@@ -8,13 +8,14 @@ use mathlib.Core.Path.{_≡_, refl, sym, ap, subst, _∙_}
 use mathlib.Core.Logic.{_⊎_, inl, inr}
 use mathlib.Core.Bool.{Bool, true, false, cond, true≢false}
 use mathlib.Core.List.{List, [], _∷_, _++_}
-use Prim.Native.Nat.{ℕ, zero, suc, _+_, _*_, _-_, _<_, _≤_}
+use Prim.Native.Nat.{ℕ, zero, suc, _*_, _<_, _≤_}
 use native.Mathlib.Omega.{arith}
 use borrow.Author.Tests.{eqb-true, ltb-true, ltb-false}
 use lib.Dec.{ltb, eqb}
 use lib.IntN.{ℤ, pos, natAbs}
 use lib.ListN.{length}
-use Rattle.whole.specs.Tests.{eqZ, cond-by}
+use Rattle.whole.specs.Flag.{eqZ}
+use Rattle.whole.specs.Tests.{cond-by}
 use Rattle.sheet.specs.declared.Object.{Object}
 use Rattle.sheet.specs.Figure.{Vec}
 use Rattle.sheet.specs.Limits.{most}

@@ -5,7 +5,7 @@
 --   need               an operation does not wrap:  `need bounds e tt`, e as the code writes it
 --   gives, raw-is      the value that is read; the value before it is stored
 --   lt-gives, eq-gives, ne-gives   a test of two expressions
---   back               a bounded number out of a local is the number
+--   back, within-out   a bounded number out of a local is the number, and within its bound
 --   small, held        the value, and what is read, is within the bound that `bnd` computes
 -- Assumes nothing.
 use mathlib.Core.Path.{_≡_, refl, sym, _∙_, ap, ap₂, subst}
@@ -140,3 +140,6 @@ module _ {β : List ℕ} {ρ : List ℤ} (h : All β ρ) where
 -- one number, as it comes out of a local
 pub back : {n : ℕ} {z : ℤ} → Within n z → T (ltb n (2 ^ 63)) → out z ≡ z
 back h t = out-is (fits64 h t)
+
+pub within-out : {n : ℕ} {z : ℤ} → Within n z → T (ltb n (2 ^ 63)) → Within n (out z)
+within-out h t = w-is (back h t) h

@@ -7,6 +7,7 @@ pub mod Sign
 pub mod SignLaws
 pub mod Linear
 pub mod Bound
+pub mod Flag
 pub mod Tests
 pub mod Flat
 pub mod Poly

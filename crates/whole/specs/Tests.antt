@@ -1,11 +1,11 @@
 -- Tests of whole numbers, as flags. To cite:
---   eqZ                         the flag of equality, beside the kit's ltZ and leZ
 --   ltZ-true, ltZ-false, leZ-true, leZ-false, eqZ-true, eqZ-false   what a flag says
 --   lt-ltZ, le-ltZ, le-leZ, lt-leZ, eq-eqZ, ne-eqZ                  the flag from what holds
 --   cond-by                     what holds of both choices, each where its flag says so, holds of the choice
---   out, out-is, out-ok         a number as it comes out of a local is the number; fits-ok: a call's result fits
+--   out, out-is, out-ok         a number as it comes out of a local is the number
+--   Fit, fits-ok, gave          what is known of a call's result: it fits; what it gave, as it is read: `gave (c .f .ok) (c .f .ensures)`
 --   lt-flag, eq-flag, lit-flag   the flag of two numbers out of locals is that of the numbers
---   lt-taken, lt-left, eq-taken, eq-left                            a branch of the code, as an order or an equation
+--   lt-taken, lt-left, eq-taken, eq-left, lit-taken                 a branch of the code, as an order or an equation; of a literal
 -- Assumes nothing.
 use mathlib.Core.Path.{_≡_, refl, sym, _∙_, ap, ap₂, subst}
 use mathlib.Core.Bool.{Bool, true, false, not, cond, true≢false}
@@ -17,6 +17,7 @@ use borrow.Author.Tests.{eqb-true, eqb-false, eq-eqb}
 use mir.Syntax.{w64}
 use mir.Val.{SFits, toZ, ofZ, hbits}
 use mir.ValLaws.{toZ-ofZ}
+use Rattle.whole.specs.Flag.{eqZ}
 use Rattle.whole.specs.Order.{le-or-lt}
 use Rattle.whole.specs.Bound.{fits64, w-pos}
 use mathlib.Core.Logic.{_⊎_, inl, inr}
@@ -65,12 +66,6 @@ leZ-false {a} {b} e = go (le-or-lt a b)
     go (inl h) = absurd (true≢false (sym (le-leZ h) ∙ e))
     go (inr h) = h
 
-abbrev pub eqZ : ℤ → ℤ → Bool
-eqZ (pos a) (pos b) = eqb a b
-eqZ (pos a) (negsuc b) = false
-eqZ (negsuc a) (pos b) = false
-eqZ (negsuc a) (negsuc b) = eqb a b
-
 pub eqZ-true : {a b : ℤ} → eqZ a b ≡ true → a ≡ b
 eqZ-true {a = pos a} {b = pos b} e = ap pos (eqb-true a b e)
 eqZ-true {a = pos a} {b = negsuc b} e = absurd (true≢false (sym e))
@@ -102,12 +97,18 @@ out z = toZ w64 (ofZ w64 z)
 pub out-is : {z : ℤ} → SFits w64 z → out z ≡ z
 out-is {z} f = toZ-ofZ w64 z f
 
--- a call's result, from its `.ok`
-pub fits-ok : (z : ℤ) → mag z < 2 ^ hbits w64 → SFits w64 z
+-- what is known of a call's result, its `.ok`
+abbrev pub Fit : ℤ → Type 0
+Fit z = mag z < 2 ^ hbits w64
+
+pub fits-ok : (z : ℤ) → Fit z → SFits w64 z
 fits-ok z h = record { sfits = h }
 
-pub out-ok : (z : ℤ) → mag z < 2 ^ hbits w64 → out z ≡ z
+pub out-ok : (z : ℤ) → Fit z → out z ≡ z
 out-ok z h = out-is (fits-ok z h)
+
+pub gave : {r z : ℤ} → Fit r → r ≡ z → out r ≡ z
+gave {r} h e = out-ok r h ∙ e
 
 pub lt-flag : {x y : ℤ} {t : Bool} → SFits w64 x → SFits w64 y → ltZ (out x) (out y) ≡ t → ltZ x y ≡ t
 lt-flag f g e = ap₂ ltZ (sym (out-is f)) (sym (out-is g)) ∙ e
@@ -133,5 +134,8 @@ eq-flag {x} {y} f g = go (eqb (ofZ w64 x) (ofZ w64 y)) (eqb-true (ofZ w64 x) (of
     go false same other = sym (ne-eqZ {a = x} {b = y} (eq-left (other refl)))
 
 -- with a literal
+pub lit-taken : (n : ℕ) → T (ltb n (2 ^ 63)) → {x : ℤ} → SFits w64 x → ofZ w64 x ≡ n → x ≡ pos n
+lit-taken n t f e = eq-taken f (fits64 (w-pos n) t) e
+
 pub lit-flag : (n : ℕ) → T (ltb n (2 ^ 63)) → {x : ℤ} → SFits w64 x → eqb (ofZ w64 x) n ≡ eqZ x (pos n)
 lit-flag n t {x} f = eq-flag f (fits64 (w-pos n) t)

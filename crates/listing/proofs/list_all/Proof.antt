@@ -1,7 +1,7 @@
 use mathlib.Core.Path.{_≡_, sym, _∙_}
 use lib.IntN.{pos}
-use Rattle.whole.specs.Bound.{fits64, w-pos}
-use Rattle.whole.specs.Tests.{fits-ok, eq-taken}
+use Rattle.whole.specs.Tests.{fits-ok}
+use Rattle.sheet.specs.AnswersLaws.{not-refused}
 use Rattle.sheet.specs.ListsLaws.{Listable, listable}
 use Rattle.listing.specs.Rows.{rowsOf, sharing}
 use Rattle.listing.specs.RowsLaws.{length-rows}
@@ -16,14 +16,11 @@ use Rattle.listing.proofs.list_all.Tie as tie
 checked : (c : tie.After-list-refusal) → c .list-refusal .result ≡ allRefusal (c .before .args .list .now)
 checked c = c .list-refusal .ensures ∙ sym (all-refusal (c .before .args .list .now))
 
-nought : (c : tie.Else1) → c .before .list-refusal .result ≡ pos 0
-nought c = eq-taken (fits-ok (c .before .list-refusal .result) (c .before .list-refusal .ok)) (fits64 (w-pos 0) tt) (c .if1 .left)
-
 accepted : (c : tie.Else1) → allRefusal (c .before .before .args .list .now) ≡ pos 0
-accepted c = sym (checked (c .before)) ∙ nought c
+accepted c = not-refused (c .before .list-refusal .ok) (checked (c .before)) (c .if1 .left)
 
 known : (c : tie.Else1) → Listable (c .before .before .args .list .now)
-known c = listable (c .before .before .args .list .now) (sym (c .before .list-refusal .ensures) ∙ nought c)
+known c = listable (c .before .before .args .list .now) (not-refused (c .before .list-refusal .ok) (c .before .list-refusal .ensures) (c .if1 .left))
 
 list-refusal-requires : tie.Need-list-refusal-requires
 list-refusal-requires c κs = search needs

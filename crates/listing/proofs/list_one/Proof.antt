@@ -2,9 +2,8 @@ use Prim.Native.Nat.{_<_}
 use mathlib.Core.Path.{_≡_, sym, _∙_}
 use native.Mathlib.Omega.{arith}
 use lib.IntN.{pos}
-use Rattle.whole.specs.Bound.{fits64, w-pos}
-use Rattle.whole.specs.Tests.{fits-ok, eq-taken}
-use Rattle.sheet.specs.AnswersLaws.{or-zero}
+use Rattle.whole.specs.Tests.{fits-ok}
+use Rattle.sheet.specs.AnswersLaws.{or-zero, not-refused}
 use Rattle.sheet.specs.Lists.{countOf, listRefusal, indexRefusal}
 use Rattle.sheet.specs.ListsLaws.{Listable, listable, index-below}
 use Rattle.listing.specs.Rows.{rowsWith, sharingWith}
@@ -20,17 +19,14 @@ use Rattle.listing.proofs.list_one.Tie as tie
 checked : (c : tie.After-index-refusal) → c .index-refusal .result ≡ oneRefusal (c .before .args .list .now) (c .before .args .i)
 checked c = c .index-refusal .ensures ∙ sym (one-refusal (c .before .args .list .now) (c .before .args .i))
 
-nought : (c : tie.Else1) → c .before .index-refusal .result ≡ pos 0
-nought c = eq-taken (fits-ok (c .before .index-refusal .result) (c .before .index-refusal .ok)) (fits64 (w-pos 0) tt) (c .if1 .left)
-
 accepted : (c : tie.Else1) → oneRefusal (c .before .before .args .list .now) (c .before .before .args .i) ≡ pos 0
-accepted c = sym (checked (c .before)) ∙ nought c
+accepted c = not-refused (c .before .index-refusal .ok) (checked (c .before)) (c .if1 .left)
 
 known : (c : tie.Else1) → Listable (c .before .before .args .list .now) × (c .before .before .args .i < countOf (c .before .before .args .list .now))
 known c =
     let s = c .before .before in
     let l = s .args .list .now in
-    let z = or-zero (listRefusal l) (indexRefusal l (s .args .i)) (sym (c .before .index-refusal .ensures) ∙ nought c) in
+    let z = or-zero (listRefusal l) (indexRefusal l (s .args .i)) (not-refused (c .before .index-refusal .ok) (c .before .index-refusal .ensures) (c .if1 .left)) in
     (listable l (z .0), index-below l (s .args .i) (z .1))
 
 index-refusal-requires : tie.Need-index-refusal-requires

@@ -6,8 +6,7 @@ use Prim.Native.Nat.{ℕ, _*_}
 use native.Mathlib.Omega.{arith}
 use lib.IntN.{pos}
 use lib.ListN.{length, drop}
-use Rattle.whole.specs.Bound.{fits64, w-pos}
-use Rattle.whole.specs.Tests.{fits-ok, eq-taken}
+use Rattle.sheet.specs.AnswersLaws.{not-refused}
 use Rattle.sheet.specs.Lists.{width}
 use Rattle.store.specs.Stored.{Drawing, readObjects, readDrawing}
 use Rattle.store.specs.TellsLaws.{rest-is}
@@ -41,7 +40,7 @@ whole c =
 fine : (c : tie.Else2) → readDrawing (c .before .before .before .before .before .before .before .before .before .args .bytes .now) .refusal ≡ pos 0
 fine c =
     let n = c .before .before .read-objects in
-    sym (whole (c .before .before)) ∙ eq-taken (fits-ok (n .result) (n .ok)) (fits64 (w-pos 0) tt) (c .if2 .left)
+    not-refused (n .ok) (whole (c .before .before)) (c .if2 .left)
 
 long :
     (c : tie.Else2) →

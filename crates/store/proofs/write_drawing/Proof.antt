@@ -1,12 +1,11 @@
 -- `write_drawing` meets its contract: each way out is one of `write-refused`, `write-short` and `write-done`. Assumes nothing.
 use borrow.Author.Needs.{needs}
-use mathlib.Core.Path.{_≡_, refl, sym, _∙_}
+use mathlib.Core.Path.{_≡_, refl, _∙_}
 use Prim.Native.Nat.{_+_}
 use native.Mathlib.Omega.{arith}
 use lib.IntN.{pos}
 use lib.ListN.{length, length-append}
-use Rattle.whole.specs.Bound.{fits64, w-pos}
-use Rattle.whole.specs.Tests.{fits-ok, eq-taken}
+use Rattle.sheet.specs.AnswersLaws.{not-refused}
 use Rattle.sheet.specs.LentLaws.{wrote-length}
 use Rattle.sheet.specs.Lists.{countOf, listRefusal}
 use Rattle.sheet.specs.ListsLaws.{Listable, listable}
@@ -33,7 +32,7 @@ number-size-requires c κs = search needs
 taken : (c : tie.Else1) → listRefusal (c .before .before .before .args .list .now) ≡ pos 0
 taken c =
     let r = c .before .list-refusal in
-    sym (r .ensures) ∙ eq-taken (fits-ok (r .result) (r .ok)) (fits64 (w-pos 0) tt) (c .if1 .left)
+    not-refused (r .ok) (r .ensures) (c .if1 .left)
 
 fine : (c : tie.Else1) → Listable (c .before .before .before .args .list .now)
 fine c = listable (c .before .before .before .args .list .now) (taken c)

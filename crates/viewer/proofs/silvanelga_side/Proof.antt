@@ -12,7 +12,8 @@ use mir.Syntax.{w64}
 use mir.Val.{Fits}
 use denote.Enum.Declared.{tagOf}
 use Rattle.whole.specs.Bound.{Within, fits64, w-pos, w-add, w-is}
-use Rattle.whole.specs.Tests.{out, out-is, out-ok, fits-ok, eq-taken, eq-left}
+use Rattle.whole.specs.Tests.{out, out-is, out-ok, eq-left}
+use Rattle.sheet.specs.AnswersLaws.{not-refused}
 use Rattle.sheet.specs.declared.Object.{Object}
 use Rattle.store.specs.declared.Item.{Item}
 use Rattle.store.specs.declared.Item.the-variants.{One}
@@ -52,7 +53,7 @@ returns c =
 fine : (c : tie.Else1) → readDrawing (stored (c .before .before .before)) .refusal ≡ pos 0
 fine c =
     let r = c .before .check-drawing in
-    sym (r .ensures) ∙ eq-taken (fits-ok (r .result) (r .ok)) (fits64 (w-pos 0) tt) (c .if1 .left)
+    not-refused (r .ok) (r .ensures) (c .if1 .left)
 
 -- ---- the index
 

@@ -3,7 +3,7 @@ use mathlib.Core.Path.{sym}
 use Rattle.whole.specs.Order.{lt-of-le-ne}
 use Rattle.whole.specs.SignLaws.{sgn-neg, sgn-pos, sgn-zero}
 use Rattle.whole.specs.Bound.{fits64, w-pos}
-use Rattle.whole.specs.Tests.{lt-taken, lt-left, eq-taken, eq-left}
+use Rattle.whole.specs.Tests.{lt-taken, lt-left, eq-left, lit-taken}
 use Rattle.whole.proofs.sign.Statement.{statement}
 use Rattle.whole.proofs.sign.Tie as tie
 
@@ -11,7 +11,7 @@ returns : tie.Need-returns
 returns c = sym (sgn-neg (lt-taken (c .before .fits .x) (fits64 (w-pos 0) tt) (c .if1 .taken)))
 
 returns-2 : tie.Need-returns-2
-returns-2 c = rw (eq-taken (c .before .before .fits .x) (fits64 (w-pos 0) tt) (c .if2 .taken)) (sym sgn-zero)
+returns-2 c = rw (lit-taken 0 tt (c .before .before .fits .x) (c .if2 .taken)) (sym sgn-zero)
 
 returns-3 : tie.Need-returns-3
 returns-3 c =

@@ -1,10 +1,9 @@
 use mathlib.Core.Path.{_≡_, sym, _∙_, subst}
 use Rattle.whole.specs.Tests.{fits-ok}
 use Rattle.sheet.specs.Refusal.{Accepted}
-use Rattle.sheet.specs.AnswersLaws.{accepted, says-refused, refused-first, refused-next}
+use Rattle.sheet.specs.AnswersLaws.{accepted, says-refused, refused-first, refused-next, not-refused}
 use Rattle.sheet.specs.Crossing.{crossingOf, crossingRefusal}
 use Rattle.sheet.specs.CrossingLaws.{crossing-refusal}
-use Rattle.kernel.specs.Accepts.{not-refused}
 use Rattle.kernel.proofs.Handed as handed
 use Rattle.kernel.proofs.Eight.{say}
 use borrow.Author.Needs.{needs}

@@ -1,11 +1,11 @@
 use mathlib.Core.Path.{_≡_, sym, _∙_, ap, subst}
 use Rattle.whole.specs.Flat.{none, _also_}
-use Rattle.whole.specs.Tests.{out, out-is, eq-left}
+use Rattle.whole.specs.Tests.{out, out-is, eq-left, lit-taken}
 use Rattle.sheet.specs.declared.Object.{Object}
 use Rattle.sheet.specs.Figure.{sideOf, figure}
 use Rattle.sheet.specs.Refusal.{Accepted}
 use Rattle.sheet.specs.Crossing.{pieces, withSide}
-use Rattle.kernel.specs.Kinds.{lit-taken, accepted-pair}
+use Rattle.kernel.specs.Kinds.{accepted-pair}
 use Rattle.kernel.specs.Pieces.{object, side-first, side-second, crossing-pieces}
 use Rattle.kernel.proofs.Handed as handed
 use Rattle.kernel.proofs.Eight.{say, near-out, piece-out}

@@ -4,13 +4,12 @@ use Prim.Native.Nat.{ℕ, _<_, _≤_}
 use lib.IntN.{ℤ, pos}
 use lib.Signed.{quotZ}
 use Rattle.whole.specs.Divisor.{gcdOf}
-use Rattle.whole.specs.Flat.{back}
+use Rattle.whole.specs.Flat.{back, within-out}
 use Rattle.whole.specs.Bound.{Within}
-use Rattle.whole.specs.Tests.{out, out-is}
+use Rattle.whole.specs.Tests.{out, out-is, gave}
 use Rattle.sheet.specs.Points.{divided}
 use Rattle.kernel.specs.Bounds.{Part}
 use Rattle.kernel.specs.Forms.{divisor-bounds}
-use Rattle.kernel.proofs.Handed.{within-out, gave}
 use borrow.Author.Needs.{needs}
 use Rattle.kernel.proofs.divide.divide.Statement.{statement}
 use Rattle.kernel.proofs.divide.divide.Tie as tie

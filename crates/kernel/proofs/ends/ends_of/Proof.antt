@@ -3,10 +3,9 @@ use mathlib.Core.List.{_∷_, _++_}
 use lib.IntN.{pos}
 use Rattle.whole.specs.Tests.{fits-ok}
 use Rattle.sheet.specs.Refusal.{Accepted}
-use Rattle.sheet.specs.AnswersLaws.{accepted, says-refused}
+use Rattle.sheet.specs.AnswersLaws.{accepted, says-refused, not-refused}
 use Rattle.sheet.specs.Points.{numbers}
 use Rattle.sheet.specs.Ends.{firstEnd, lastEnd}
-use Rattle.kernel.specs.Accepts.{not-refused}
 use Rattle.kernel.proofs.Handed as handed
 use borrow.Author.Needs.{needs}
 use Rattle.kernel.proofs.ends.ends_of.Statement.{statement}

@@ -1,13 +1,13 @@
 use mathlib.Core.Path.{sym, _∙_, ap}
 use lib.IntN.{ℤ}
 use Rattle.whole.specs.Flat.{need}
-use Rattle.whole.specs.Tests.{out-is, eq-left}
+use Rattle.whole.specs.Tests.{out-is, eq-left, lit-taken}
 use Rattle.sheet.specs.declared.Object.{Object}
 use Rattle.sheet.specs.Figure.{sideOf, first, second}
 use Rattle.sheet.specs.RefusalLaws.{Proper}
 use Rattle.sheet.specs.Points.{given}
 use Rattle.sheet.specs.Ends.{farEnd, begins}
-use Rattle.kernel.specs.Kinds.{lit-taken, accepted-pair, first-side, first-line, first-given}
+use Rattle.kernel.specs.Kinds.{accepted-pair, first-side, first-line, first-given}
 use Rattle.kernel.specs.Pieces.{object}
 use Rattle.kernel.proofs.Eight.{dxE, dyE}
 use Rattle.kernel.proofs.Ahead.{swapped, reversed, place, pair, way, ahead}

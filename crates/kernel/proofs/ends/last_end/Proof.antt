@@ -6,13 +6,13 @@ use mir.Syntax.{w64}
 use mir.Val.{SFits}
 use Rattle.whole.specs.Bound.{fits64, w-pos}
 use Rattle.whole.specs.Flat.{need}
-use Rattle.whole.specs.Tests.{out, out-is, eq-left}
+use Rattle.whole.specs.Tests.{out, out-is, eq-left, lit-taken}
 use Rattle.sheet.specs.declared.Object.{Object}
-use Rattle.sheet.specs.Figure.{Side, left, bottom, right, top, sideOf, first, second}
-use Rattle.sheet.specs.RefusalLaws.{Proper, sideNumber}
+use Rattle.sheet.specs.Figure.{Side, left, bottom, right, top, sideNumber, sideOf, first, second}
+use Rattle.sheet.specs.RefusalLaws.{Proper}
 use Rattle.sheet.specs.Points.{given}
 use Rattle.sheet.specs.Ends.{farEnd, begins, nextSide}
-use Rattle.kernel.specs.Kinds.{lit-taken, accepted-pair, accepted-side, last-side, last-given, last-far}
+use Rattle.kernel.specs.Kinds.{accepted-pair, accepted-side, last-side, last-given, last-far}
 use Rattle.kernel.specs.Pieces.{object}
 use Rattle.kernel.proofs.Eight.{dxE, dyE}
 use Rattle.kernel.proofs.Ahead.{place, pair, way, ahead}

@@ -8,11 +8,11 @@ use mir.Syntax.{w64}
 use mir.Val.{ofZ}
 use Rattle.whole.specs.Sign.{sgn}
 use Rattle.whole.specs.Ring.{var, _⊗_}
-use Rattle.whole.specs.Flat.{All, none, _also_, need, gives}
+use Rattle.whole.specs.Flat.{All, none, _also_, need, gives, within-out}
 use Rattle.whole.specs.Bound.{w-is, w-sgn}
-use Rattle.whole.specs.Tests.{eqZ, eq-flag, fits-ok, out-is, out-ok}
+use Rattle.whole.specs.Flag.{eqZ}
+use Rattle.whole.specs.Tests.{eq-flag, fits-ok, out-is, out-ok}
 use Rattle.sheet.specs.Points.{size}
-use Rattle.kernel.proofs.Handed.{within-out}
 use borrow.Author.Needs.{needs}
 use Rattle.kernel.proofs.far.is_flat.Statement.{statement}
 use Rattle.kernel.proofs.far.is_flat.Tie as tie

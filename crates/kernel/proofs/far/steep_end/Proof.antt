@@ -4,12 +4,11 @@ use lib.IntN.{ℤ, pos, negℤ, _*ℤ_, +ℤ-idl}
 use lib.Signed.{_<ℤ_}
 use Rattle.whole.specs.Sign.{sgn}
 use Rattle.whole.specs.Ring.{var, lit, _⊖_, _⊗_}
-use Rattle.whole.specs.Flat.{All, none, _also_, need, gives, held}
+use Rattle.whole.specs.Flat.{All, none, _also_, need, gives, held, within-out}
 use Rattle.whole.specs.Bound.{w-is, w-lit, w-pos, w-sgn, w-size}
-use Rattle.whole.specs.Tests.{out, out-is}
+use Rattle.whole.specs.Tests.{out, out-is, gave}
 use Rattle.sheet.specs.Points.{size, divided}
 use Rattle.kernel.specs.Forms.{steep-is}
-use Rattle.kernel.proofs.Handed.{within-out, gave}
 use borrow.Author.Needs.{needs}
 use Rattle.kernel.proofs.far.steep_end.Statement.{statement}
 use Rattle.kernel.proofs.far.steep_end.Tie as tie

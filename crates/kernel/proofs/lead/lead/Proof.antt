@@ -1,10 +1,8 @@
 use mathlib.Core.Path.{sym, _∙_, ap}
 use Rattle.whole.specs.Sign.{sgn}
 use Rattle.whole.specs.SignLaws.{sgn-zero}
-use Rattle.whole.specs.Tests.{out-is, out-ok, eq-left}
+use Rattle.whole.specs.Tests.{out-is, out-ok, eq-left, gave, lit-taken}
 use Rattle.whole.specs.PolyLaws.{first-ne}
-use Rattle.kernel.specs.Kinds.{lit-taken}
-use Rattle.kernel.proofs.Handed.{gave}
 use borrow.Author.Needs.{needs}
 use Rattle.kernel.proofs.lead.lead.Statement.{statement}
 use Rattle.kernel.proofs.lead.lead.Tie as tie

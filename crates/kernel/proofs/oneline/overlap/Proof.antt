@@ -3,9 +3,8 @@ use mathlib.Core.Bool.{Bool, cond}
 use mathlib.Core.List.{List}
 use lib.IntN.{ℤ}
 use lib.Signed.{ltZ}
-use Rattle.whole.specs.Tests.{out, out-is, lt-flag}
+use Rattle.whole.specs.Tests.{out, out-is, lt-flag, gave}
 use Rattle.kernel.specs.Pieces.{at, betweenBy}
-use Rattle.kernel.proofs.Handed.{gave}
 use Rattle.kernel.proofs.Eight.{say}
 use borrow.Author.Needs.{needs}
 use Rattle.kernel.proofs.oneline.overlap.Statement.{statement}

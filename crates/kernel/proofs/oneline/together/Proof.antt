@@ -7,11 +7,11 @@ use mir.Syntax.{w64}
 use mir.Val.{SFits, ofZ}
 use Rattle.whole.specs.Ring.{Expr, var, lit, _⊕_, _⊗_}
 use Rattle.whole.specs.Flat.{need, gives, lt-gives}
-use Rattle.whole.specs.Tests.{eqZ, out, out-is, lit-flag}
+use Rattle.whole.specs.Flag.{eqZ}
+use Rattle.whole.specs.Tests.{out, out-is, lit-flag, Fit, gave}
 use Rattle.sheet.specs.Crossing.{dot}
 use Rattle.sheet.specs.Figure.{Vec, _⇀_}
 use Rattle.kernel.specs.Pieces.{at, far, together-alike, together-opposed}
-use Rattle.kernel.proofs.Handed.{Fit, gave}
 use Rattle.kernel.proofs.Eight.{dxE, dyE, fxE, fyE, say}
 use borrow.Author.Needs.{needs}
 use Rattle.kernel.proofs.oneline.together.Statement.{statement}

@@ -6,7 +6,8 @@ use Rattle.whole.specs.Sign.{sgn}
 use Rattle.whole.specs.Ring.{var, lit, _⊖_}
 use Rattle.whole.specs.Flat.{none, _also_, need, raw-is}
 use Rattle.whole.specs.Bound.{Within, w-is, w-sgn}
-use Rattle.whole.specs.Tests.{eqZ, out-is, fits-ok, lit-flag, eq-flag}
+use Rattle.whole.specs.Flag.{eqZ}
+use Rattle.whole.specs.Tests.{out-is, fits-ok, lit-flag, eq-flag}
 use borrow.Author.Needs.{needs}
 use Rattle.kernel.proofs.points.is_in_square.Statement.{statement}
 use Rattle.kernel.proofs.points.is_in_square.Tie as tie

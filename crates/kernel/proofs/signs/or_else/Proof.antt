@@ -1,7 +1,6 @@
 use mathlib.Core.Path.{_∙_}
 use lib.IntN.{pos}
-use Rattle.whole.specs.Tests.{out-is, eq-left, eq-eqZ, ne-eqZ}
-use Rattle.kernel.specs.Kinds.{lit-taken}
+use Rattle.whole.specs.Tests.{out-is, eq-left, eq-eqZ, ne-eqZ, lit-taken}
 use Rattle.kernel.proofs.signs.or_else.Statement.{statement}
 use Rattle.kernel.proofs.signs.or_else.Tie as tie
 

@@ -1,8 +1,8 @@
 use mathlib.Core.Path.{sym, _∙_, ap₂}
 use Rattle.whole.specs.Poly.{first}
 use Rattle.whole.specs.PolyLaws.{first-sgn}
+use Rattle.whole.specs.Tests.{gave}
 use Rattle.sheet.specs.Expansions.{order-is}
-use Rattle.kernel.proofs.Handed.{gave}
 use Rattle.kernel.proofs.Coordinates.{lead-is}
 use borrow.Author.Needs.{needs}
 use Rattle.kernel.proofs.signs.order_of.Statement.{statement}

@@ -1,5 +1,5 @@
 use mathlib.Core.Path.{_∙_}
-use Rattle.kernel.proofs.Handed.{gave}
+use Rattle.whole.specs.Tests.{gave}
 use Rattle.kernel.proofs.Coordinates.{x-of, coordinate-out, along-out}
 use Rattle.kernel.proofs.signs.order_x.Statement.{statement}
 use Rattle.kernel.proofs.signs.order_x.Tie as tie

@@ -1,5 +1,5 @@
 use mathlib.Core.Path.{_∙_}
-use Rattle.kernel.proofs.Handed.{gave}
+use Rattle.whole.specs.Tests.{gave}
 use Rattle.kernel.proofs.Coordinates.{y-of, coordinate-out, along-out}
 use Rattle.kernel.proofs.signs.order_y.Statement.{statement}
 use Rattle.kernel.proofs.signs.order_y.Tie as tie

@@ -1,14 +1,13 @@
 use mathlib.Core.Path.{sym, _∙_}
 use Rattle.whole.specs.Ring.{var}
 use Rattle.whole.specs.Flat.{held}
-use Rattle.whole.specs.Tests.{out-ok, fits-ok, eq-left}
+use Rattle.whole.specs.Tests.{out-ok, fits-ok, eq-left, gave, lit-taken}
 use Rattle.sheet.specs.Figure.{side, sideOf, first, second}
 use Rattle.sheet.specs.RefusalLaws.{Proper, kind-side}
 use Rattle.sheet.specs.Signs.{sideOfFigure}
 use Rattle.sheet.specs.Expansions.{side-of-figure, pair-side-is}
 use Rattle.kernel.specs.Forms.{pairSide}
-use Rattle.kernel.specs.Kinds.{lit-taken, accepted-pair, side-pair}
-use Rattle.kernel.proofs.Handed.{gave}
+use Rattle.kernel.specs.Kinds.{accepted-pair, side-pair}
 use Rattle.kernel.proofs.Ahead.{place, pair}
 use Rattle.kernel.proofs.Coordinates.{x-of, y-of, point-out, coordinate-out}
 use Rattle.kernel.proofs.signs.side_sign.Statement.{statement}

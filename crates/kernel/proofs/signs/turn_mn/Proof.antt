@@ -1,5 +1,5 @@
 use mathlib.Core.Path.{_∙_}
-use Rattle.kernel.proofs.Handed.{gave}
+use Rattle.whole.specs.Tests.{gave}
 use Rattle.kernel.proofs.Det.{mn, row-out, det-out}
 use Rattle.kernel.proofs.signs.turn_mn.Statement.{statement}
 use Rattle.kernel.proofs.signs.turn_mn.Tie as tie

@@ -1,11 +1,10 @@
 use mathlib.Core.Path.{_≡_, sym, _∙_}
 use mathlib.Core.List.{[], _∷_}
 use lib.IntN.{pos}
-use Rattle.whole.specs.Tests.{fits-ok}
+use Rattle.whole.specs.Tests.{fits-ok, gave}
 use Rattle.sheet.specs.Signs.{turnRefusal}
-use Rattle.sheet.specs.AnswersLaws.{says-refused, accepted}
-use Rattle.kernel.specs.Accepts.{not-refused, turn-accepts}
-use Rattle.kernel.proofs.Handed.{gave}
+use Rattle.sheet.specs.AnswersLaws.{says-refused, accepted, not-refused}
+use Rattle.kernel.specs.Accepts.{turn-accepts}
 use borrow.Author.Needs.{needs}
 use Rattle.kernel.proofs.signs.turn_points.Statement.{statement}
 use Rattle.kernel.proofs.signs.turn_points.Tie as tie

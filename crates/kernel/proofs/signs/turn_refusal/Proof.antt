@@ -1,6 +1,6 @@
 use mathlib.Core.Path.{_∙_, ap₂}
+use Rattle.whole.specs.Tests.{gave}
 use Rattle.sheet.specs.Signs.{orElse, turnRefusal}
-use Rattle.kernel.proofs.Handed.{gave}
 use borrow.Author.Needs.{needs}
 use Rattle.kernel.proofs.signs.turn_refusal.Statement.{statement}
 use Rattle.kernel.proofs.signs.turn_refusal.Tie as tie

@@ -6,7 +6,8 @@ use Rattle.whole.specs.Sign.{sgn}
 use Rattle.whole.specs.Ring.{Expr, var, lit, _⊕_, _⊖_, _⊗_, ⊝_, ring}
 use Rattle.whole.specs.Flat.{All, none, _also_, need, raw-is, held}
 use Rattle.whole.specs.Bound.{w-is, w-sgn}
-use Rattle.whole.specs.Tests.{eqZ, out-is, fits-ok, lit-flag}
+use Rattle.whole.specs.Flag.{eqZ}
+use Rattle.whole.specs.Tests.{out-is, fits-ok, lit-flag}
 use Rattle.sheet.specs.Points.{size}
 use Rattle.kernel.specs.Forms.{steep-is}
 use Rattle.kernel.specs.Pieces.{onBy}

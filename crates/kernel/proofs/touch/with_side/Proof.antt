@@ -4,16 +4,15 @@ use mir.Syntax.{w64}
 use mir.Val.{SFits}
 use Rattle.whole.specs.Flat.{need}
 use Rattle.whole.specs.Bound.{Within}
-use Rattle.whole.specs.Tests.{out, out-is, eq-left}
+use Rattle.whole.specs.Tests.{out, out-is, eq-left, Fit, gave, lit-taken}
 use Rattle.sheet.specs.declared.Object.{Object}
 use Rattle.sheet.specs.Figure.{Side, outX, outY, sideOf, first, second}
 use Rattle.sheet.specs.RefusalLaws.{Proper}
 use Rattle.sheet.specs.Ends.{farEnd, reverse}
 use Rattle.sheet.specs.Crossing.{none}
 use Rattle.kernel.specs.Bounds.{Out}
-use Rattle.kernel.specs.Kinds.{lit-taken, accepted-pair}
+use Rattle.kernel.specs.Kinds.{accepted-pair}
 use Rattle.kernel.specs.Pieces.{object, endBy, sidesBy, out-within, with-segment, with-ray, with-side, with-line}
-use Rattle.kernel.proofs.Handed.{Fit, gave}
 use Rattle.kernel.proofs.Eight.{dxE, dyE, say}
 use Rattle.kernel.proofs.Ahead.{place, pair, way, ahead}
 use borrow.Author.Needs.{needs}

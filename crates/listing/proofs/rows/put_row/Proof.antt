@@ -59,7 +59,7 @@ returns c =
     let s = k .before .before .before .before in
     let t = c .before .before .before .before .before .before .struct-told .given in
     let p = k .before .p .given .0 .0 in
-    let same = handed.point p (t .0 .1) (t .1 .0 .1) (t .1 .1 .0 .1) (t .1 .1 .1 .0 .1) (t .1 .1 .1 .1 .0 .1) in
+    let same = handed.point-told p t in
     wrote-as (w .ensures) (ap (λ (q : Point). pos (s .args .i) ∷ pos (s .args .j) ∷ pos 1 ∷ numbers q) same ∙ ap (rowBy (s .args .i) (s .args .j)) (met-once (k .before)))
 
 enum-told : tie.Need-enum-told

@@ -2,8 +2,9 @@ use mathlib.Core.Path.{_∙_, ap}
 use mathlib.Core.List.{List}
 use lib.IntN.{ℤ}
 use Rattle.whole.specs.Tests.{fits-ok}
+use Rattle.sheet.specs.AnswersLaws.{not-refused}
 use Rattle.screen.specs.Told.{Told}
-use Rattle.screen.specs.ToldLaws.{none-refused, told-refused, told-accepted}
+use Rattle.screen.specs.ToldLaws.{told-refused, told-accepted}
 use Rattle.screen.specs.Lists.{objectsOf}
 use Rattle.screen.specs.Extents.{endsOf, extentOf, extentSays}
 use borrow.Author.Needs.{needs}
@@ -22,7 +23,7 @@ returns c =
     told-refused (told (c .before .before .args .list .now)) (fits-ok (r .result) (r .ok)) (r .ensures) (c .if1 .taken)
 
 extent-requires : tie.Need-extent-requires
-extent-requires c κs = let r = c .before .list-refusal in none-refused (fits-ok (r .result) (r .ok)) (r .ensures) (c .if1 .left)
+extent-requires c κs = let r = c .before .list-refusal in not-refused (r .ok) (r .ensures) (c .if1 .left)
 
 returns-2 : tie.Need-returns-2
 returns-2 c =

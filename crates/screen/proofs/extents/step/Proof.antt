@@ -2,7 +2,8 @@ use mathlib.Core.Path.{sym, _∙_, ap, ap₂}
 use mathlib.Core.Bool.{Bool}
 use lib.IntN.{ℤ, pos}
 use Rattle.whole.specs.Bound.{fits64, w-pos}
-use Rattle.whole.specs.Tests.{eqZ, eq-eqZ, ne-eqZ, eq-taken, eq-left, out-is, out-ok}
+use Rattle.whole.specs.Flag.{eqZ}
+use Rattle.whole.specs.Tests.{eq-eqZ, ne-eqZ, eq-taken, eq-left, out-is, out-ok}
 use Rattle.screen.specs.Extents.{farther}
 use Rattle.screen.specs.ExtentsLaws.{steppedBy}
 use borrow.Author.Needs.{needs}

@@ -3,7 +3,7 @@ use mathlib.Core.List.{[], _∷_}
 use lib.IntN.{ℤ, pos}
 use Rattle.whole.specs.Tests.{out, out-is, out-ok}
 use Rattle.sheet.specs.declared.Point.{Point}
-use Rattle.sheet.specs.RefusalLaws.{sideNumber}
+use Rattle.sheet.specs.Figure.{sideNumber}
 use Rattle.kernel.proofs.Handed as handed
 use Rattle.screen.specs.Quotient.{quotient}
 use Rattle.screen.specs.Places.{sideWhere}

@@ -1,10 +1,11 @@
 use mathlib.Core.Path.{sym, _∙_, ap, subst}
 use Rattle.whole.specs.Tests.{fits-ok}
+use Rattle.sheet.specs.AnswersLaws.{not-refused}
 use Rattle.sheet.specs.PointsLaws.{APoint, point-is}
 use Rattle.sheet.specs.AcceptsLaws.{point-taken}
 use Rattle.kernel.proofs.Handed as handed
 use Rattle.screen.specs.Places.{placeOf}
-use Rattle.screen.specs.ToldLaws.{none-refused, told-refused, told-accepted}
+use Rattle.screen.specs.ToldLaws.{told-refused, told-accepted}
 use borrow.Author.Needs.{needs}
 use Rattle.screen.proofs.places.place_of.Statement.{statement}
 use Rattle.screen.proofs.places.place_of.Tie as tie
@@ -24,7 +25,7 @@ point-place-requires c κs =
     let p = e .before .before .args .p in
     let t = c .before .before .before .before .struct-told .given in
     subst APoint (sym (handed.point p (t .0 .1) (t .1 .0 .1) (t .1 .1 .0 .1) (t .1 .1 .1 .0 .1) (t .1 .1 .1 .1 .0 .1)))
-    (point-is p .0 (point-taken p (none-refused (fits-ok (r .result) (r .ok)) (r .ensures) (e .if1 .left))))
+    (point-is p .0 (point-taken p (not-refused (r .ok) (r .ensures) (e .if1 .left))))
 
 returns-2 : tie.Need-returns-2
 returns-2 c =

@@ -5,7 +5,7 @@ use Rattle.whole.specs.Ring.{var, lit, _⊖_}
 use Rattle.whole.specs.Flat.{All, none, _also_, need, gives}
 use Rattle.whole.specs.Tests.{out, out-is}
 use Rattle.sheet.specs.declared.Point.{Point}
-use Rattle.sheet.specs.RefusalLaws.{sideNumber}
+use Rattle.sheet.specs.Figure.{sideNumber}
 use Rattle.screen.specs.Places.{exactly, sideWhere}
 use Rattle.screen.specs.PlacesLaws.{sideBy}
 use borrow.Author.Needs.{needs}

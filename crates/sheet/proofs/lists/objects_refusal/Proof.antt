@@ -3,8 +3,8 @@ use mathlib.Core.Path.{_≡_, refl, sym, ap, _∙_}
 use lib.IntN.{pos}
 use native.Mathlib.Omega.{arith}
 use borrow.Author.Needs.{needs}
-use Rattle.whole.specs.Bound.{fits64, w-pos}
-use Rattle.whole.specs.Tests.{fits-ok, out-is, eq-taken, eq-left}
+use Rattle.whole.specs.Tests.{fits-ok, out-is, eq-left}
+use Rattle.sheet.specs.AnswersLaws.{not-refused}
 use Rattle.sheet.specs.Refusal.{objectRefusal}
 use Rattle.sheet.specs.Lists.{firstRefusal, objectsRefusal}
 use Rattle.sheet.specs.ListsLaws.{one-accepted, one-refused}
@@ -48,7 +48,7 @@ loop-again c =
     let l = at .before .args .list .now in
     let r = c .before .object-refusal in
     let is = r .ensures .0 ∙ ap objectRefusal (c .before .before .object-at .ensures) in
-    (omega arith, one-accepted l (at .loop .i) (at .loop .inv .1) (sym is ∙ eq-taken (fits-ok (r .result) (r .ok)) (fits64 (w-pos 0) tt) (c .if1 .left)))
+    (omega arith, one-accepted l (at .loop .i) (at .loop .inv .1) (not-refused (r .ok) is (c .if1 .left)))
 
 returns-2 : tie.Need-returns-2 Inv-loop μ-loop
 returns-2 c =

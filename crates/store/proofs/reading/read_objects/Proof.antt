@@ -8,8 +8,8 @@ use native.Mathlib.Omega.{arith}
 use lib.IntN.{ℤ, pos}
 use lib.ListN.{length, drop, length-drop}
 use lib.Seq.{sets}
-use Rattle.whole.specs.Bound.{fits64, w-pos}
-use Rattle.whole.specs.Tests.{out-ok, fits-ok, eq-taken, eq-left}
+use Rattle.whole.specs.Tests.{out-ok, eq-left}
+use Rattle.sheet.specs.AnswersLaws.{not-refused}
 use Rattle.sheet.specs.declared.Object.{Object}
 use Rattle.sheet.specs.Answers.{objectNumbers}
 use Rattle.sheet.specs.Lists.{width}
@@ -131,7 +131,7 @@ loop-again c =
     let l = r .before .before .before .loop in
     let bs = r .before .before .before .before .before .args .bytes .now in
     let told = c .before .before .before .before .before .before .struct-told .given in
-    let z = eq-taken (fits-ok (r .read-object .result .refusal) (told .0 .1)) (fits64 (w-pos 0) tt)
+    let z = not-refused (told .0 .1) refl
     (c .before .before .before .before .before .if1 .left) in
     step bs (l .left) (l .at) (l .inv) (omega arith) (tells-rest readObject (l .at) bs (r .read-object .ensures)) z (p .kept .0) (p .ensures)
 
