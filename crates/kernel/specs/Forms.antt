@@ -5,21 +5,21 @@
 --   mixed-is              the coefficient of R in the turn is a sum of two determinants
 --   divisor-bounds        the common divisor is above 0 and small
 -- Assumes nothing.
-use mathlib.Core.Path.{_≡_, sym, _∙_, ap, subst}
+use mathlib.Core.Path.{_≡_, sym, ap, subst}
 use mathlib.Core.Bool.{Bool, true, false, _&&_, _||_}
 use mathlib.Core.List.{[], _∷_}
 use Prim.Native.Nat.{_<_, _≤_}
 use native.Mathlib.Nat.{le-trans, le-of-dvd}
 use native.Mathlib.Omega.{arith}
-use lib.IntN.{ℤ, pos, negℤ, natAbs, _+ℤ_, _-ℤ_, _*ℤ_, *ℤ-zero}
+use lib.IntN.{ℤ, pos, negℤ, natAbs, _+ℤ_, _-ℤ_, _*ℤ_}
 use lib.Signed.{ltZ, leZ, _<ℤ_, clashℤ}
 use Rattle.whole.specs.Sign.{sgn}
-use Rattle.whole.specs.SignLaws.{sgn-abs, size-above}
+use Rattle.whole.specs.SignLaws.{sgn-abs}
 use Rattle.whole.specs.Flag.{eqZ}
 use Rattle.whole.specs.Tests.{eq-eqZ, ne-eqZ, lt-ltZ, le-ltZ, le-leZ, lt-leZ}
 use Rattle.sheet.specs.declared.Point.{Point}
 use Rattle.sheet.specs.Ends.{flat, steep, farRaw}
-use Rattle.sheet.specs.EndsLaws.{Far, far, flatter, steeper, tie-flat, tie-steep}
+use Rattle.sheet.specs.EndsLaws.{Far, far, flatter, steeper, tie-flat, tie-steep, moving}
 use Rattle.whole.specs.Poly.{first}
 use Rattle.whole.specs.Reify.{reify, reading, solve}
 use Rattle.whole.specs.Order.{pp-dest, nn-pos, ≤-<-trans, ≤-of, <-≤}
@@ -33,10 +33,6 @@ use Rattle.kernel.specs.Bounds.{Raw}
 -- |dx| is the larger, or both are equal and sx sy k is 0 or less
 abbrev pub isFlat : ℤ → ℤ → ℤ → Bool
 isFlat dx dy k = ltZ (size dy) (size dx) || (eqZ (size dx) (size dy) && leZ (sgn dx *ℤ sgn dy *ℤ k) (pos 0))
-
--- equal sizes that are not both 0
-tie-above : (a b : ℤ) → size b ≡ size a → (a ≡ pos 0 → b ≡ pos 0 → ⊥) → pos 0 <ℤ size a
-tie-above a b q n = size-above (λ z. n z (sym (sgn-abs b) ∙ ap (λ (s : ℤ). sgn b *ℤ s) (q ∙ ap size z) ∙ *ℤ-zero (sgn b)))
 
 -- which form the test finds, and that its w is above 0
 data Form (dx dy k : ℤ) : Bool → Type 0 where
@@ -54,9 +50,9 @@ module _ (dx dy k : ℤ) where
       go (flatter l e) = by (simp (lt-ltZ l)) (is-flat e (≤-<-trans (nn-pos (natAbs dy)) l))
       go (steeper l e) =
           by (simp (le-ltZ (<-≤ l), ne-eqZ (λ q. clashℤ l (≤-of (sym q))))) (is-steep e (≤-<-trans (nn-pos (natAbs dx)) l))
-      go (tie-flat q t e) = by (simp (eq-eqZ (sym q), le-ltZ (≤-of (sym q)), le-leZ t)) (is-flat e (tie-above dx dy q n))
+      go (tie-flat q t e) = by (simp (eq-eqZ (sym q), le-ltZ (≤-of (sym q)), le-leZ t)) (is-flat e (moving dx dy q n))
       go (tie-steep q t e) =
-          by (simp (eq-eqZ (sym q), le-ltZ (≤-of (sym q)), lt-leZ t)) (is-steep e (tie-above dy dx (sym q) (λ y x. n x y)))
+          by (simp (eq-eqZ (sym q), le-ltZ (≤-of (sym q)), lt-leZ t)) (is-steep e (moving dy dx (sym q) (λ y x. n x y)))
 
   pub flat-form : (dx ≡ pos 0 → dy ≡ pos 0 → ⊥) → isFlat dx dy k ≡ true → (farRaw dx dy k ≡ flat dx dy k) × (pos 0 <ℤ size dx)
   flat-form n h = go (subst (Form dx dy k) h (form n))

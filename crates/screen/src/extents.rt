@@ -43,7 +43,7 @@ fn step(up: bool, far: i64, kind: i64, p: i64, q: i64) -> i64
 }
 
 // The farthest of a number and one coordinate of all standard ends: x at axis 0, y at axis 1.
-fn reach(list: &[i64], up: bool, axis: usize, start: i64) -> i64
+fn farthest_end(list: &[i64], up: bool, axis: usize, start: i64) -> i64
     requires { ⌜ (length (now list) % width ≡ 0) × (axis < 2) ⌝ }
     ensures { λ r. ⌜ r ≡ farthest up axis start (endsOf (objectsOf (now (list .entry)))) ⌝ }
 {
@@ -94,13 +94,13 @@ fn extent(list: &[i64]) -> Extent
 {
     let above = Object::REACH + 1;
     let below = -above;
-    let low_x = reach(list, false, 0, above);
+    let low_x = farthest_end(list, false, 0, above);
     if low_x == above {
         return nothing();
     }
-    let low_y = reach(list, false, 1, above);
-    let high_x = reach(list, true, 0, below);
-    let high_y = reach(list, true, 1, below);
+    let low_y = farthest_end(list, false, 1, above);
+    let high_x = farthest_end(list, true, 0, below);
+    let high_y = farthest_end(list, true, 1, below);
     around(low_x, low_y, high_x, high_y)
 }
 

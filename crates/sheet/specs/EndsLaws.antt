@@ -2,6 +2,7 @@
 --   Far, far                 which of the two forms the far end has, and why
 --   Way, proper-way, reverse-way   a direction and its moment k within the limits: of an accepted pair, and reversed
 --   moment-is, moment-reverse      k = qx py - qy px; reversing negates it
+--   moving                   equal sizes that are not both 0 are above 0
 --   far-frame, far-end-fine  the far end before and after the division
 --   Fine                     a point that is narrow
 --   first-end-fine, last-end-fine, first-end-is-point, last-end-is-point   the ends of an accepted object
@@ -117,7 +118,7 @@ steep-frame : (dx dy k : ℤ) → Within 4000 dy → Within 8000000 k → pos 0 
 steep-frame dx dy k hy hk above i = subst Frame (steep-over dx dy k) (over-frame (flat-frame dy dx (negℤ k) hy (w-neg hk) above i))
 
 -- equal sizes that are not both 0
-moving : (dx dy : ℤ) → size dy ≡ size dx → (dx ≡ pos 0 → dy ≡ pos 0 → ⊥) → pos 0 <ℤ size dx
+pub moving : (dx dy : ℤ) → size dy ≡ size dx → (dx ≡ pos 0 → dy ≡ pos 0 → ⊥) → pos 0 <ℤ size dx
 moving dx dy e n = size-above (λ z. n z (sym (sgn-abs dy) ∙ ap (λ (w : ℤ). sgn dy *ℤ w) (e ∙ ap size z) ∙ *ℤ-zero (sgn dy)))
 
 pub far-frame : (dx dy k : ℤ) → Way dx dy k → Frame (farRaw dx dy k)

@@ -1,5 +1,4 @@
-use mathlib.Core.Path.{_∙_}
-use Rattle.whole.specs.Tests.{out-ok}
+use Rattle.whole.specs.Tests.{gave}
 use borrow.Author.Needs.{needs}
 use Rattle.viewer.proofs.silvanelga_check.Statement.{statement}
 use Rattle.viewer.proofs.silvanelga_check.Tie as tie
@@ -8,7 +7,7 @@ check-drawing-requires : tie.Need-check-drawing-requires
 check-drawing-requires c κs = search needs
 
 returns : tie.Need-returns
-returns c = out-ok (c .check-drawing .result) (c .check-drawing .ok) ∙ c .check-drawing .ensures
+returns c = gave (c .check-drawing .ok) (c .check-drawing .ensures)
 
 pub silvanelga-check-spec : {M : Type 1} → statement M
 silvanelga-check-spec = tie.close (tie.spec check-drawing-requires returns)

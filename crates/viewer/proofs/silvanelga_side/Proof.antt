@@ -12,7 +12,7 @@ use mir.Syntax.{w64}
 use mir.Val.{Fits}
 use denote.Enum.Declared.{tagOf}
 use Rattle.whole.specs.Bound.{Within, fits64, w-pos, w-add, w-is}
-use Rattle.whole.specs.Tests.{out, out-is, out-ok, eq-left}
+use Rattle.whole.specs.Tests.{out, out-is, out-ok, eq-left, gave}
 use Rattle.sheet.specs.AnswersLaws.{not-refused}
 use Rattle.sheet.specs.declared.Object.{Object}
 use Rattle.store.specs.declared.Item.{Item}
@@ -34,7 +34,7 @@ check-drawing-requires : tie.Need-check-drawing-requires
 check-drawing-requires c κs = search needs
 
 refusal : (c : tie.After-check-drawing) → out (c .check-drawing .result) ≡ readDrawing (stored (c .before .before)) .refusal
-refusal c = out-ok (c .check-drawing .result) (c .check-drawing .ok) ∙ c .check-drawing .ensures
+refusal c = gave (c .check-drawing .ok) (c .check-drawing .ensures)
 
 small : (c : tie.After-check-drawing) → Within 111 (pos 100 +ℤ out (c .check-drawing .result))
 small c = w-add (w-pos 100) (w-is (refusal c) (bytes-within (stored (c .before .before))))

@@ -6,7 +6,7 @@ use native.Mathlib.Omega.{arith}
 use lib.IntN.{pos}
 use lib.ListN.{length}
 use Rattle.whole.specs.Bound.{Within, fits64, w-pos, w-is}
-use Rattle.whole.specs.Tests.{out, out-ok, fits-ok, eq-taken, eq-left}
+use Rattle.whole.specs.Tests.{out, fits-ok, eq-taken, eq-left, gave}
 use Rattle.sheet.specs.Figure.{Vec}
 use Rattle.screen.specs.Quotient.{float}
 use Rattle.sheet.specs.Lists.{width, countOf}
@@ -35,11 +35,11 @@ fives s = omega (arith, taken s .whole)
 -- there is a standard end
 some : (c : tie.Else1) → isNone (ends (c .before .before)) ≡ false
 some c =
-    let r = c .before .reach in
+    let r = c .before .farthest-end in
     some-end (ends (c .before .before)) (λ z. eq-left {x = r .result} {y = pos 2001} (c .if1 .left) (r .ensures ∙ z))
 
 -- each of the four numbers that are found is the lowest or the highest
-module _ (c : tie.After-reach4) where
+module _ (c : tie.After-farthest-end4) where
   abbrev s : tie.Start
   s = c .before .before .before .before .before
 
@@ -49,17 +49,17 @@ module _ (c : tie.After-reach4) where
   from : (up : Bool) (axis : ℕ) → farthest up axis (beyondAll up) (ends s) ≡ extreme up axis (ends s)
   from up axis = from-beyond up axis (ends s) (all-small s) (some (c .before .before .before))
 
-  lx : out (c .before .before .before .before .reach .result) ≡ extreme false 0 (ends s)
-  lx = let r = c .before .before .before .before .reach in out-ok (r .result) (r .ok) ∙ r .ensures ∙ from false 0
+  lx : out (c .before .before .before .before .farthest-end .result) ≡ extreme false 0 (ends s)
+  lx = let r = c .before .before .before .before .farthest-end in gave (r .ok) (r .ensures) ∙ from false 0
 
-  ly : out (c .before .before .reach2 .result) ≡ extreme false 1 (ends s)
-  ly = let r = c .before .before .reach2 in out-ok (r .result) (r .ok) ∙ r .ensures ∙ from false 1
+  ly : out (c .before .before .farthest-end2 .result) ≡ extreme false 1 (ends s)
+  ly = let r = c .before .before .farthest-end2 in gave (r .ok) (r .ensures) ∙ from false 1
 
-  hx : out (c .before .reach3 .result) ≡ extreme true 0 (ends s)
-  hx = let r = c .before .reach3 in out-ok (r .result) (r .ok) ∙ r .ensures ∙ from true 0
+  hx : out (c .before .farthest-end3 .result) ≡ extreme true 0 (ends s)
+  hx = let r = c .before .farthest-end3 in gave (r .ok) (r .ensures) ∙ from true 0
 
-  hy : out (c .reach4 .result) ≡ extreme true 1 (ends s)
-  hy = let r = c .reach4 in out-ok (r .result) (r .ok) ∙ r .ensures ∙ from true 1
+  hy : out (c .farthest-end4 .result) ≡ extreme true 1 (ends s)
+  hy = let r = c .farthest-end4 in gave (r .ok) (r .ensures) ∙ from true 1
 
 add-above : tie.Need-add-above
 add-above c = search needs
@@ -67,27 +67,27 @@ add-above c = search needs
 sub-below : tie.Need-sub-below
 sub-below c = search needs
 
-reach-requires : tie.Need-reach-requires
-reach-requires c κs = (fives c, omega arith)
+farthest-end-requires : tie.Need-farthest-end-requires
+farthest-end-requires c κs = (fives c, omega arith)
 
 nothing-requires : tie.Need-nothing-requires
 nothing-requires c κs = search needs
 
 returns : tie.Need-returns
 returns c =
-    let r = c .before .before .reach in
+    let r = c .before .before .farthest-end in
     let s = c .before .before .before in
     let top = sym (r .ensures) ∙ eq-taken (fits-ok (r .result) (r .ok)) (fits64 (w-pos 2001) tt) (c .before .if1 .taken) in
     c .nothing .ensures ∙ sym (ap extentOf (no-end (ends s) (all-small s) top))
 
-reach-requires-2 : tie.Need-reach-requires-2
-reach-requires-2 c κs = (fives (c .before .before), omega arith)
+farthest-end-requires-2 : tie.Need-farthest-end-requires-2
+farthest-end-requires-2 c κs = (fives (c .before .before), omega arith)
 
-reach-requires-3 : tie.Need-reach-requires-3
-reach-requires-3 c κs = (fives (c .before .before .before), omega arith)
+farthest-end-requires-3 : tie.Need-farthest-end-requires-3
+farthest-end-requires-3 c κs = (fives (c .before .before .before), omega arith)
 
-reach-requires-4 : tie.Need-reach-requires-4
-reach-requires-4 c κs = (fives (c .before .before .before .before), omega arith)
+farthest-end-requires-4 : tie.Need-farthest-end-requires-4
+farthest-end-requires-4 c κs = (fives (c .before .before .before .before), omega arith)
 
 around-requires : tie.Need-around-requires
 around-requires c κs =
@@ -110,11 +110,11 @@ extent-spec =
     (tie.spec
     add-above
     sub-below
-    reach-requires
+    farthest-end-requires
     nothing-requires
     returns
-    reach-requires-2
-    reach-requires-3
-    reach-requires-4
+    farthest-end-requires-2
+    farthest-end-requires-3
+    farthest-end-requires-4
     around-requires
     returns-2)

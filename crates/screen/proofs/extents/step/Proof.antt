@@ -3,7 +3,7 @@ use mathlib.Core.Bool.{Bool}
 use lib.IntN.{ℤ, pos}
 use Rattle.whole.specs.Bound.{fits64, w-pos}
 use Rattle.whole.specs.Flag.{eqZ}
-use Rattle.whole.specs.Tests.{eq-eqZ, ne-eqZ, eq-taken, eq-left, out-is, out-ok}
+use Rattle.whole.specs.Tests.{eq-eqZ, ne-eqZ, eq-taken, eq-left, out-is, gave}
 use Rattle.screen.specs.Extents.{farther}
 use Rattle.screen.specs.ExtentsLaws.{steppedBy}
 use borrow.Author.Needs.{needs}
@@ -22,10 +22,10 @@ pick-requires-2 c κs = search needs
 returns : tie.Need-returns
 returns c =
     let s = c .before .before .before in
-    let inner = out-ok (c .before .pick .result) (c .before .pick .ok) ∙ c .before .pick .ensures
+    let inner = gave (c .before .pick .ok) (c .before .pick .ensures)
     ∙ (λ i. farther (s .args .up) (out-is (s .fits .far) i) (out-is (s .fits .p) i)) in
     let one = eq-eqZ (eq-taken (s .fits .kind) (fits64 (w-pos 1) tt) (c .before .before .if1 .taken)) in
-    out-ok (c .pick2 .result) (c .pick2 .ok) ∙ c .pick2 .ensures
+    gave (c .pick2 .ok) (c .pick2 .ensures)
     ∙ (λ i. farther (s .args .up) (inner i) (out-is (s .fits .q) i))
     ∙ sym (ap (λ (t : Bool). chosen s t (eqZ (s .args .kind) (pos 2))) one)
 
@@ -37,7 +37,7 @@ returns-2 c =
     let s = c .before .before .before in
     let one = ne-eqZ {a = s .args .kind} {b = pos 1} (eq-left (c .before .before .if1 .left)) in
     let two = eq-eqZ (eq-taken (s .fits .kind) (fits64 (w-pos 2) tt) (c .before .if2 .taken)) in
-    out-ok (c .pick3 .result) (c .pick3 .ok) ∙ c .pick3 .ensures
+    gave (c .pick3 .ok) (c .pick3 .ensures)
     ∙ (λ i. farther (s .args .up) (out-is (s .fits .far) i) (out-is (s .fits .p) i))
     ∙ sym (ap₂ (chosen s) one two)
 

@@ -1,7 +1,7 @@
 use mathlib.Core.Path.{_≡_, _∙_, ap}
 use mathlib.Core.List.{[], _∷_}
 use lib.IntN.{ℤ, pos}
-use Rattle.whole.specs.Tests.{out, out-is, out-ok}
+use Rattle.whole.specs.Tests.{out, out-is, gave}
 use Rattle.sheet.specs.declared.Point.{Point}
 use Rattle.sheet.specs.Figure.{sideNumber}
 use Rattle.kernel.proofs.Handed as handed
@@ -20,7 +20,7 @@ number c =
     let s = c .before in
     let r = c .side-number in
     let p = handed.point (point s) (s .fits .mx .sfits) (s .fits .nx .sfits) (s .fits .my .sfits) (s .fits .ny .sfits) (s .fits .w .sfits) in
-    out-ok (r .result) (r .ok) ∙ r .ensures ∙ (λ i. sideNumber (sideWhere (p i)))
+    gave (r .ok) (r .ensures) ∙ (λ i. sideNumber (sideWhere (p i)))
 
 side-number-requires : tie.Need-side-number-requires
 side-number-requires c κs = search needs

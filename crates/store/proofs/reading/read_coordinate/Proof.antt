@@ -2,7 +2,7 @@
 use borrow.Author.Needs.{needs}
 use mathlib.Core.Path.{_≡_, refl, sym, _∙_}
 use mathlib.Core.Bool.{Bool}
-use Rattle.whole.specs.Tests.{out, out-ok}
+use Rattle.whole.specs.Tests.{out, gave}
 use Rattle.sheet.specs.Refusal.{beyond}
 use Rattle.store.specs.Stored.{readCoordinate, unzigzag}
 use Rattle.store.specs.TellsLaws.{on-refused, on-taken, tells-taken, tells-refused, tells-as}
@@ -20,7 +20,7 @@ coordinate-of-requires : tie.Need-coordinate-of-requires
 coordinate-of-requires c κs = search needs
 
 value : (c : tie.After-coordinate-of) → out (c .coordinate-of .result) ≡ unzigzag (c .before .before .before .read-number .result .value)
-value c = out-ok (c .coordinate-of .result) (c .coordinate-of .ok) ∙ c .coordinate-of .ensures
+value c = gave (c .coordinate-of .ok) (c .coordinate-of .ensures)
 
 far : (c : tie.After-coordinate-of) {t : Bool} → beyond (out (c .coordinate-of .result)) ≡ t → beyond
     (unzigzag (c .before .before .before .read-number .result .value)) ≡ t

@@ -7,15 +7,15 @@ use mir.Val.{toZ}
 use lib.IntN.{ℤ, pos}
 use lib.ListN.{length, getD}
 use borrow.Author.Needs.{needs}
-use Rattle.whole.specs.Tests.{out, out-ok, out-is}
+use Rattle.whole.specs.Tests.{out, out-ok, out-is, gave}
 use Rattle.sheet.specs.declared.Object.{Object}
 use Rattle.sheet.specs.Lists.{width, objectFrom}
 use Rattle.screen.specs.Lists.{objectsOf}
 use Rattle.screen.specs.ListsLaws.{restFrom, rest-all, rest-at, rest-end}
 use Rattle.screen.specs.Extents.{endsOf, farthest}
 use Rattle.screen.specs.ExtentsLaws.{part-at, stepped, ends-step}
-use Rattle.screen.proofs.extents.reach.Statement.{statement}
-use Rattle.screen.proofs.extents.reach.Tie as tie
+use Rattle.screen.proofs.extents.farthest_end.Statement.{statement}
+use Rattle.screen.proofs.extents.farthest_end.Tie as tie
 
 abbrev Inv-loop : tie.InvT-loop
 Inv-loop list up axis start far₀ at₀ far at =
@@ -88,7 +88,7 @@ loop-again c =
     let kind = out-ok (getD l at (pos 0)) (p .before .kind .given) in
     let first = out-ok _ (p .p .given) ∙ part-at l at 1 axis few in
     let second = out-ok _ (c .before .q .given) ∙ part-at l at 3 axis few in
-    let far = out-ok (r .result) (r .ok) ∙ r .ensures
+    let far = gave (r .ok) (r .ensures)
     ∙ (λ i. stepped (s .args .up) was (kind i) (first i) (second i)) in (
       omega arith,
       (
@@ -111,8 +111,8 @@ returns c =
     ∙ ap (λ (os : List Object). farthest (s .args .up) (s .args .axis) (toZ w64 (h .far)) (endsOf os)) (rest-end l (h .at) (omega arith)))
     ∙ ap (λ (z : ℤ). farthest (s .args .up) (s .args .axis) z (endsOf (objectsOf l))) (out-is (s .fits .start))
 
-pub reach-spec : {M : Type 1} → statement M
-reach-spec =
+pub farthest-end-spec : {M : Type 1} → statement M
+farthest-end-spec =
     tie.close
     (tie.spec
     Inv-loop
