@@ -2,7 +2,7 @@
 --   Small, Proper            both coordinates at most n; two given points within 2,000 that differ
 --   Taken, accepted-taken    an accepted object by its kind: what figure it is, and what holds of its numbers
 --   Drawn, accepted-drawn    a figure that a sheet takes: that of an accepted object
---   pair-proper, side-proper   refusal 0 of a pair, of a side;  side-of  the side of its own number
+--   pair-proper, side-proper, ASide   refusal 0 of a pair, of a side, and what its numbers are then;  side-of  the side of its own number
 --   kind-segment, kind-ray, kind-line, kind-side   the figure by the kind
 -- Assumes nothing.
 use mathlib.Core.Path.{_≡_, refl, sym, _∙_, ap, subst}

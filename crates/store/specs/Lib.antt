@@ -5,6 +5,7 @@ pub mod Tells
 pub mod Bounded
 pub mod TellsLaws
 pub mod NumberLaws
+pub mod Refusals
 pub mod SureLaws
 pub mod ObjectsLaws
 pub mod AnswersLaws

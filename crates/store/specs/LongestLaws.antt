@@ -23,7 +23,7 @@ use Rattle.sheet.specs.Refusal.{outside, beyond, equal, pairRefusal, objectRefu
 use Rattle.sheet.specs.Lists.{width, countOf, objectAt, listRefusal}
 use Rattle.sheet.specs.ListsLaws.{is-listable, object-next}
 use Rattle.store.specs.Stored.{Drawing, Reading, got, no, next, checked, pairOf, longest, andThen, counted, refused, before, writeDrawing, readGroups, readNumber, unzigzag, readCoordinate, sideObject, readSide, readPoint, readTo, readPair, readShape, readObject, readObjects, readCount, readDrawing, writeGroups, writeShape, writeObject, writeObjects}
-use Rattle.store.specs.SureLaws.{Sure, sure-number, sure-object}
+use Rattle.store.specs.SureLaws.{Sure, Any, not-nought, sure-number, sure-object}
 use Rattle.store.specs.SureLaws as sure
 use Rattle.store.specs.StoredLaws.{read-written}
 
@@ -163,10 +163,10 @@ objects-longer zero (b ∷ bs) t h = record { over = eqZ-false {a = pos 9} {b = 
 objects-longer (suc n) bs t h =
     let k = go (same-object bs t (omega arith)) (sure-object bs) (objects-longer n) in record { over = k .0; same = k .1 }
   where
-    go : {r r′ : Reading Object} → Same 9 bs t r r′ → Sure bs r → ((rest t : List ℕ) → n * 9 < length rest → Over n rest t)
+    go : {r r′ : Reading Object} → Same 9 bs t r r′ → Sure Accepted bs r → ((rest t : List ℕ) → n * 9 < length rest → Over n rest t)
         → (andThen r (λ rest. readObjects n rest) .refusal ≡ pos 0 → ⊥)
         × (andThen r′ (λ rest. readObjects n rest) ≡ andThen r (λ rest. readObjects n rest))
-    go (off n) (sure.refused m z) more = (eqZ-false z, refl)
+    go (off n) (sure.refused m z) more = (eqZ-false (not-nought m z), refl)
     go (on o rest l) s more = let k = more rest t (omega arith) in (k .over, ap (before o) (k .same))
 
 abbrev few : ℕ → List ℕ → Reading ℕ
@@ -177,9 +177,9 @@ drawing-longer :
 unfolding readDrawing readCount
 drawing-longer bs t h = go (same-number bs t (omega arith)) (sure-number bs)
   where
-    go : {r r′ : Reading ℕ} → Same 2 bs t r r′ → Sure bs r
+    go : {r r′ : Reading ℕ} → Same 2 bs t r r′ → Sure Any bs r
         → (counted (next r few) .refusal ≡ pos 0 → ⊥) × (counted (next r′ few) ≡ counted (next r few))
-    go (off n) (sure.refused m z) = (eqZ-false z, refl)
+    go (off n) (sure.refused m z) = (eqZ-false (not-nought m z), refl)
     go (on n rest l) s = second (ltb most n) (ltb-false most n)
       where
         second : (u : Bool) → (u ≡ false → n ≤ most)

@@ -1,11 +1,11 @@
 -- Objects, written and read again, and back. To cite:
 --   object-back   an accepted object, written, is read as it was, its first point first
---   object-from   what is read is accepted, and what is written for it is what was read
+--   object-from   what is written for what is read is what was read
 -- Assumes nothing.
 use mathlib.Core.Path.{_≡_, refl, sym, ap, subst, _∙_}
 use mathlib.Core.Bool.{Bool, true, false, cond, _||_, true≢false}
 use mathlib.Core.List.{List, _++_, append-assoc}
-use Prim.Native.Nat.{ℕ, _<_, _≤_}
+use Prim.Native.Nat.{ℕ, _≤_}
 use native.Mathlib.Omega.{arith}
 use borrow.Author.Tests.{eqb-true, ltb-false}
 use lib.Dec.{ltb, eqb}
@@ -15,8 +15,8 @@ use Rattle.sheet.specs.declared.Object.{Object}
 use Rattle.sheet.specs.Figure.{Vec}
 use Rattle.sheet.specs.Refusal.{outside, beyond, anyBeyond, equal, pairRefusal, sideRefusal, objectRefusal}
 use Rattle.sheet.specs.Flags.{neither, isnt-not, cond-zero}
-use Rattle.store.specs.Stored.{numberLimit, Reading, got, no, next, checked, pairOf, writeNumber, writePoint, writeShape, writeObject, sideObject, readSide, readTo, readPair, readShape, readObject}
-use Rattle.store.specs.Trip.{Bytes, behind-bytes, From, from, not, number-back, number-from, Near, writeSpot, point-back, point-from}
+use Rattle.store.specs.Stored.{Reading, got, no, next, checked, pairOf, writeNumber, writePoint, writeShape, writeObject, sideObject, readSide, readTo, readPair, readShape, readObject}
+use Rattle.store.specs.Trip.{Bytes, behind-bytes, From, from, not, from-checked, number-back, number-from, Near, writeSpot, point-back, point-from}
 
 -- ---- what refusal 0 says, as flags
 
@@ -34,11 +34,6 @@ pair-flags px py qx qy h =
     let e = neither (beyond px || beyond py) (beyond qx) .0 (c .0) in
     let f = neither (beyond px) (beyond py) .0 (e .0) in
     record { near-p = record { in-x = f .0; in-y = f .1 }; near-q = record { in-x = e .1; in-y = c .1 }; differ = d .0 }
-
-flags-pair : {px py qx qy : ℤ} → PairFlags px py qx qy → pairRefusal px py qx qy ≡ pos 0
-unfolding pairRefusal
-flags-pair {px} {py} {qx} {qy} f =
-    simp (f .near-p .in-x, f .near-p .in-y, f .near-q .in-x, f .near-q .in-y, f .differ)
 
 -- a number from 1 to 4 is a natural number
 natural : (z : ℤ) → outside (pos 1) (pos 4) z ≡ false → z ≡ pos (natAbs z)
@@ -119,89 +114,61 @@ object-back o rest h =
 
 -- ---- from
 
-abbrev shapeOf : Object → List ℕ
-shapeOf o = writeShape (o .kind) (o .px) (o .py) (o .qx) (o .qy)
-
--- an accepted object of a kind
-record Of (kind : ℕ) (o : Object) : Type 0 where
-  of : o .kind ≡ pos kind
-  fine : objectRefusal o ≡ pos 0
-
-side-from : (bs : List ℕ) → Bytes bs → From shapeOf (Of 4) bs (readSide bs)
-unfolding readSide writeShape objectRefusal sideRefusal
+side-from : (bs : List ℕ) → Bytes bs → From writeObject (writeNumber 4 ++ bs) (readSide bs)
+unfolding readSide writeShape writeObject
 side-from bs h = go (number-from bs h)
   where
-    go : {r : Reading ℕ} → From writeNumber (λ n. n < numberLimit) bs r
-        → From shapeOf (Of 4) bs (next r (λ n rest. checked (outside (pos 1) (pos 4) (pos n)) (pos 4) (sideObject (pos n)) rest))
+    go : {r : Reading ℕ} → From writeNumber bs r
+        → From writeObject (writeNumber 4 ++ bs)
+        (next r (λ n rest. checked (outside (pos 1) (pos 4) (pos n)) (pos 4) (sideObject (pos n)) rest))
     go (not n) = not n
-    go (from n rest p e) = second (outside (pos 1) (pos 4) (pos n)) (λ x. x)
-      where
-        second : (t : Bool) → (t ≡ false → outside (pos 1) (pos 4) (pos n) ≡ false)
-            → From shapeOf (Of 4) bs (checked t (pos 4) (sideObject (pos n)) rest)
-        second true y = not (pos 4)
-        second false y = from (sideObject (pos n)) rest (record { of = refl; fine = simp (y refl) }) e
+    go (from n rest e) =
+        from-checked (outside (pos 1) (pos 4) (pos n)) (pos 4) (sideObject (pos n)) rest
+        (ap (λ (l : List ℕ). writeNumber 4 ++ l) e ∙ sym (append-assoc (writeNumber 4) (writeNumber n) rest))
 
-module _ (kind : ℕ) (in-range : outside (pos 1) (pos 4) (pos kind) ≡ false) (other : eqb kind 4 ≡ false) where
+module _ (kind : ℕ) (other : eqb kind 4 ≡ false) where
   to-from :
-      (bs rest : List ℕ) (p : Vec) → Near p → bs ≡ writeSpot p ++ rest → Bytes rest → From shapeOf (Of kind) bs (readTo kind p rest)
-  unfolding readTo writeShape objectRefusal
-  to-from bs rest p near e h = go (point-from rest h)
+      (bs rest : List ℕ) (p : Vec) → bs ≡ writeSpot p ++ rest → Bytes rest → From writeObject (writeNumber kind ++ bs) (readTo kind p rest)
+  unfolding readTo writeShape writeObject
+  to-from bs rest p e h = go (point-from rest h)
     where
-      go : {r : Reading Vec} → From writeSpot Near rest r
-          → From shapeOf (Of kind) bs
+      go : {r : Reading Vec} → From writeSpot rest r
+          → From writeObject (writeNumber kind ++ bs)
           (next r (λ q rest. checked (equal (p .x) (p .y) (q .x) (q .y)) (pos 3) (object (pos kind) (p .x) (p .y) (q .x) (q .y)) rest))
       go (not n) = not n
-      go (from q rest′ n f) = second (equal (p .x) (p .y) (q .x) (q .y)) (λ x. x)
-        where
-          second : (t : Bool) → (t ≡ false → equal (p .x) (p .y) (q .x) (q .y) ≡ false)
-              → From shapeOf (Of kind) bs (checked t (pos 3) (object (pos kind) (p .x) (p .y) (q .x) (q .y)) rest′)
-          second true y = not (pos 3)
-          second false y =
-              from (object (pos kind) (p .x) (p .y) (q .x) (q .y)) rest′
-              (record {
-                of = refl;
-                fine = simp (in-range, other) (flags-pair (record { near-p = near; near-q = n; differ = y refl }));
-              })
-              (simp other (e ∙ ap (λ (l : List ℕ). writeSpot p ++ l) f ∙ sym (append-assoc (writeSpot p) (writeSpot q) rest′)))
+      go (from q rest′ f) =
+          let both = e ∙ ap (λ (l : List ℕ). writeSpot p ++ l) f ∙ sym (append-assoc (writeSpot p) (writeSpot q) rest′) in
+          from-checked (equal (p .x) (p .y) (q .x) (q .y)) (pos 3) (object (pos kind) (p .x) (p .y) (q .x) (q .y)) rest′
+          (simp other
+          (ap (λ (l : List ℕ). writeNumber kind ++ l) both ∙ sym (append-assoc (writeNumber kind) (writeSpot p ++ writeSpot q) rest′)))
 
-  pair-from : (bs : List ℕ) → Bytes bs → From shapeOf (Of kind) bs (readPair kind bs)
+  pair-from : (bs : List ℕ) → Bytes bs → From writeObject (writeNumber kind ++ bs) (readPair kind bs)
   unfolding readPair
   pair-from bs h = go (point-from bs h)
     where
-      go : {r : Reading Vec} → From writeSpot Near bs r → From shapeOf (Of kind) bs (next r (λ p rest. readTo kind p rest))
+      go : {r : Reading Vec} → From writeSpot bs r → From writeObject (writeNumber kind ++ bs) (next r (λ p rest. readTo kind p rest))
       go (not n) = not n
-      go (from p rest n e) = to-from bs rest p n e (behind-bytes (writeSpot p) e h)
+      go (from p rest e) = to-from bs rest p e (behind-bytes (writeSpot p) e h)
 
-shape-from : (kind : ℕ) (bs : List ℕ) → outside (pos 1) (pos 4) (pos kind) ≡ false → Bytes bs → From shapeOf (Of kind) bs
-    (readShape kind bs)
+shape-from : (kind : ℕ) (bs : List ℕ) → Bytes bs → From writeObject (writeNumber kind ++ bs) (readShape kind bs)
 unfolding readShape
-shape-from kind bs r h = go (eqb kind 4) (eqb-true kind 4) (λ e. pair-from kind r e bs h)
+shape-from kind bs h = go (eqb kind 4) (eqb-true kind 4) (λ e. pair-from kind e bs h)
   where
-    go : (t : Bool) → (t ≡ true → kind ≡ 4) → (t ≡ false → From shapeOf (Of kind) bs (readPair kind bs))
-        → From shapeOf (Of kind) bs (cond t (readSide bs) (readPair kind bs))
-    go true y m = subst (λ (k : ℕ). From shapeOf (Of k) bs (readSide bs)) (sym (y refl)) (side-from bs h)
+    go : (t : Bool) → (t ≡ true → kind ≡ 4) → (t ≡ false → From writeObject (writeNumber kind ++ bs) (readPair kind bs))
+        → From writeObject (writeNumber kind ++ bs) (cond t (readSide bs) (readPair kind bs))
+    go true y m = subst (λ (k : ℕ). From writeObject (writeNumber k ++ bs) (readSide bs)) (sym (y refl)) (side-from bs h)
     go false y m = m refl
 
-pub object-from : (bs : List ℕ) → Bytes bs → From writeObject (λ o. objectRefusal o ≡ pos 0) bs (readObject bs)
-unfolding readObject writeObject
+pub object-from : (bs : List ℕ) → Bytes bs → From writeObject bs (readObject bs)
+unfolding readObject
 object-from bs h = go (number-from bs h)
   where
-    third : (kind : ℕ) (rest : List ℕ) → bs ≡ writeNumber kind ++ rest → {r : Reading Object} → From shapeOf (Of kind) rest r
-        → From writeObject (λ o. objectRefusal o ≡ pos 0) bs r
-    third kind rest e (not n) = not n
-    third kind rest e (from o rest′ p f) =
-        from o rest′ (p .fine)
-        (e ∙ ap (λ (l : List ℕ). writeNumber kind ++ l) f
-        ∙ ap (λ (z : ℤ). writeNumber (natAbs z) ++ (shapeOf o ++ rest′)) (sym (p .of))
-        ∙ sym (append-assoc (writeNumber (natAbs (o .kind))) (shapeOf o) rest′))
-
-    go : {r : Reading ℕ} → From writeNumber (λ n. n < numberLimit) bs r
-        → From writeObject (λ o. objectRefusal o ≡ pos 0) bs
-        (next r (λ kind rest. cond (outside (pos 1) (pos 4) (pos kind)) (no (pos 1)) (readShape kind rest)))
+    go : {r : Reading ℕ} → From writeNumber bs r
+        → From writeObject bs (next r (λ kind rest. cond (outside (pos 1) (pos 4) (pos kind)) (no (pos 1)) (readShape kind rest)))
     go (not n) = not n
-    go (from kind rest p e) = second (outside (pos 1) (pos 4) (pos kind)) (λ x. x)
+    go (from kind rest e) = second (outside (pos 1) (pos 4) (pos kind))
       where
-        second : (t : Bool) → (t ≡ false → outside (pos 1) (pos 4) (pos kind) ≡ false)
-            → From writeObject (λ o. objectRefusal o ≡ pos 0) bs (cond t (no (pos 1)) (readShape kind rest))
-        second true y = not (pos 1)
-        second false y = third kind rest e (shape-from kind rest (y refl) (behind-bytes (writeNumber kind) e h))
+        second : (t : Bool) → From writeObject bs (cond t (no (pos 1)) (readShape kind rest))
+        second true = not (pos 1)
+        second false =
+            subst (λ (l : List ℕ). From writeObject l (readShape kind rest)) (sym e) (shape-from kind rest (behind-bytes (writeNumber kind) e h))

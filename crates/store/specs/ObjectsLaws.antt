@@ -13,10 +13,11 @@ use lib.ListN.{length, drop}
 use lib.Seq.{drop-drop}
 use Rattle.sheet.specs.AnswersLaws.{not-refused}
 use Rattle.sheet.specs.declared.Object.{Object}
+use Rattle.sheet.specs.Refusal.{Accepted}
 use Rattle.sheet.specs.Lists.{width}
 use Rattle.store.specs.Stored.{Reading, got, no, refused, before, andThen, counted, readObject, readObjects, readCount, readDrawing}
 use Rattle.store.specs.Tells.{Tells}
-use Rattle.store.specs.SureLaws.{Sure, sure-object}
+use Rattle.store.specs.SureLaws.{Sure, not-nought, sure-object}
 use Rattle.store.specs.SureLaws as sure
 use lib.Signed.{mag}
 use mir.Syntax.{w64}
@@ -62,11 +63,11 @@ objects-length zero [] e = refl
 objects-length zero (b ∷ bs) e = refl
 objects-length (suc k) bs e = go (readObject bs) (sure-object bs) (objects-length k) e
   where
-    go : (r : Reading Object) → Sure bs r → ((rest : List ℕ) → readObjects k rest .refusal ≡ pos 0 → length
+    go : (r : Reading Object) → Sure Accepted bs r → ((rest : List ℕ) → readObjects k rest .refusal ≡ pos 0 → length
         (readObjects k rest .objects) ≡ k * width)
         → andThen r (λ rest. readObjects k rest) .refusal ≡ pos 0 → length (andThen r (λ rest. readObjects k rest) .objects) ≡ suc k * width
     go (got o rest) s l e = omega (arith, l rest e)
-    go (no n) (sure.refused m z) l e = absurd (eqZ-false z e)
+    go (no n) (sure.refused m z) l e = absurd (eqZ-false (not-nought m z) e)
 
 -- ---- the count, and then the objects
 

@@ -16,6 +16,8 @@ use lib.Seq.{drop-drop, drop-at}
 use Rattle.sheet.specs.declared.Object.{Object}
 use Rattle.sheet.specs.Answers.{objectNumbers}
 use Rattle.sheet.specs.AnswersLaws.{object-one}
+use Rattle.sheet.specs.Limits.{most}
+use Rattle.sheet.specs.Refusal.{Accepted}
 use Rattle.sheet.specs.Lists.{width}
 use Rattle.sheet.specs.ListsLaws.{object-next}
 use Rattle.store.specs.declared.Place.{Place}
@@ -24,7 +26,7 @@ use Rattle.store.specs.declared.Item.the-variants.{One, End, Refused}
 use Rattle.store.specs.declared.Stepped.{Stepped}
 use Rattle.store.specs.Stored.{Drawing, Reading, got, no, refused, before, andThen, counted, readObject, readObjects, readCount, readDrawing}
 use Rattle.store.specs.Reader.{startPlace, placeOf, stepTo, stepObject, stepFrom, stepCounted, stepOf, callFrom, endOf, itemOf, itemSays}
-use Rattle.store.specs.SureLaws.{Sure, sure-object, sure-count}
+use Rattle.store.specs.SureLaws.{Sure, not-nought, sure-object, sure-count}
 use Rattle.store.specs.SureLaws as sure
 use Rattle.store.specs.ObjectsLaws.{objects-end, objects-over}
 use Rattle.store.specs.StepLaws.{first-call}
@@ -103,14 +105,14 @@ runs zero bs at p h e k = go (ltb at (length bs)) (ltb-true at (length bs)) (ltb
         ∙ sym (ap (λ (d : Drawing). itemOf d k) (objects-end (drop at bs) (omega (arith, length-drop at bs))) ∙ item-none (pos 0) k)
 runs (suc left) bs at p h e k = go (sure-object (drop at bs)) (runs left bs) e k
   where
-    go : {r : Reading Object} → Sure (drop at bs) r
+    go : {r : Reading Object} → Sure Accepted (drop at bs) r
         → ((at : ℕ) (p : Place) → at ≤ length bs → stepOf bs p ≡ stepFrom bs p left at → (k : ℕ)
         → callFrom bs p k ≡ itemOf (readObjects left (drop at bs)) k)
         → stepOf bs p ≡ stepObject bs p left r → (k : ℕ) → callFrom bs p k ≡ itemOf (andThen r (λ rest. readObjects left rest)) k
-    go (sure.refused n z) more e k = stays bs p (Refused n) e k ∙ sym (item-none n k ∙ simp z)
-    go (sure.read o front rest f) more e zero =
+    go (sure.refused n z) more e k = stays bs p (Refused (pos n)) e k ∙ sym (item-none (pos n) k ∙ simp (not-nought n z))
+    go (sure.read o front rest f a) more e zero =
         sym (first-call bs p) ∙ ap (λ (s : Stepped). s .item) e ∙ sym (item-first o (readObjects left rest))
-    go (sure.read o front rest f) more e (suc k) =
+    go (sure.read o front rest f a) more e (suc k) =
         let there = rest-at bs front rest at h f in
         let on : Place = record { begun = true; left = left; at = placeOf bs rest } in
         call-next bs p k
@@ -125,9 +127,9 @@ pub calls-give : (bs : List ℕ) (k : ℕ) → callFrom bs startPlace k ≡ item
 unfolding readDrawing stepOf
 calls-give bs k = go (sure-count bs) refl
   where
-    go : {r : Reading ℕ} → Sure bs r → stepOf bs startPlace ≡ stepCounted bs startPlace r → callFrom bs startPlace k ≡ itemOf (counted r) k
-    go (sure.refused n z) e = stays bs startPlace (Refused n) e k ∙ sym (item-none n k ∙ simp z)
-    go (sure.read n front rest f) e =
+    go : {r : Reading ℕ} → Sure (λ n. n ≤ most) bs r → stepOf bs startPlace ≡ stepCounted bs startPlace r → callFrom bs startPlace k ≡ itemOf (counted r) k
+    go (sure.refused n z) e = stays bs startPlace (Refused (pos n)) e k ∙ sym (item-none (pos n) k ∙ simp (not-nought n z))
+    go (sure.read n front rest f a) e =
         let there = rest-at bs front rest 0 (omega arith) f in
         runs n bs (placeOf bs rest) startPlace (there .0) e k ∙ ap (λ (l : List ℕ). itemOf (readObjects n l) k) (there .1)
 

@@ -5,26 +5,25 @@
 --   same-bytes     two drawings with the same objects have the same bytes
 -- Assumes nothing.
 use mathlib.Core.Path.{_≡_, refl, sym, ap, subst, _∙_}
-use mathlib.Core.Bool.{Bool, true, false}
 use mathlib.Core.List.{List, [], _∷_, _++_}
 use Prim.Native.Nat.{ℕ, zero, suc, _*_, _<_, _≤_}
 use native.Mathlib.Omega.{arith}
-use borrow.Author.Tests.{le-ltb, ltb-false}
+use borrow.Author.Tests.{le-ltb}
 use lib.Dec.{ltb}
 use lib.IntN.{ℤ, pos}
 use lib.ListN.{length}
 use Rattle.whole.specs.Tests.{eqZ-false}
 use Rattle.sheet.specs.declared.Object.{Object}
 use Rattle.sheet.specs.Limits.{most}
-use Rattle.sheet.specs.Refusal.{objectRefusal, Accepted}
+use Rattle.sheet.specs.Refusal.{Accepted}
 use Rattle.sheet.specs.Answers.{objectNumbers}
 use Rattle.sheet.specs.Lists.{width, countOf, objectAt, listRefusal}
 use Rattle.sheet.specs.ListsLaws.{listable, is-listable, object-next}
-use Rattle.store.specs.Stored.{numberLimit, Drawing, Reading, next, checked, refused, before, andThen, counted, writeNumber, writeObject, writeObjects, writeDrawing, readObjects, readCount, readDrawing}
-use Rattle.store.specs.SureLaws.{Sure, sure-object, sure-count}
+use Rattle.store.specs.Stored.{Drawing, Reading, next, checked, refused, before, andThen, counted, writeNumber, writeObject, writeObjects, writeDrawing, readObjects, readCount, readDrawing}
+use Rattle.store.specs.SureLaws.{Sure, not-nought, sure-object, sure-count}
 use Rattle.store.specs.SureLaws as sure
 use Rattle.store.specs.ObjectsLaws.{objects-length}
-use Rattle.store.specs.Trip.{Bytes, behind-bytes, From, from, not, number-back, number-from}
+use Rattle.store.specs.Trip.{Bytes, behind-bytes, From, from, not, from-checked, number-back, number-from}
 use Rattle.store.specs.ObjectTrip.{object-back, object-from}
 
 abbrev taken : List ℤ → Drawing
@@ -61,9 +60,8 @@ read-written l h =
 
 -- ---- read, and then written
 
-each-next : (o : Object) (n : ℕ) (l : List ℤ) → objectRefusal o ≡ pos 0 → Each n l → Each (suc n) (objectNumbers o ++ l)
-unfolding objectRefusal
-each-next o n l p h zero k = record { accepted = p }
+each-next : (o : Object) (n : ℕ) (l : List ℤ) → Accepted o → Each n l → Each (suc n) (objectNumbers o ++ l)
+each-next o n l p h zero k = p
 each-next o n l p h (suc i) k = subst Accepted (object-next (objectNumbers o ++ l) i) (h i (omega arith))
 
 objects-from :
@@ -74,29 +72,24 @@ objects-from zero [] h e = (refl, λ i k. absurd (omega arith))
 objects-from zero (b ∷ bs) h e = absurd (eqZ-false {a = pos 9} {b = pos 0} refl e)
 objects-from (suc n) bs h e = go (object-from bs h) (sure-object bs) (objects-from n) e
   where
-    go : {r : Reading Object} → From writeObject (λ o. objectRefusal o ≡ pos 0) bs r → Sure bs r
+    go : {r : Reading Object} → From writeObject bs r → Sure Accepted bs r
         → ((rest : List ℕ) → Bytes rest → readObjects n rest .refusal ≡ pos 0
         → (writeObjects n (readObjects n rest .objects) ≡ rest) × Each n (readObjects n rest .objects))
         → andThen r (λ rest. readObjects n rest) .refusal ≡ pos 0
         → (writeObjects (suc n) (andThen r (λ rest. readObjects n rest) .objects) ≡ bs)
         × Each (suc n) (andThen r (λ rest. readObjects n rest) .objects)
-    go (from o rest p f) s behind e =
+    go (from o rest f) (sure.read a front end g p) behind e =
         let k = behind rest (behind-bytes (writeObject o) f h) e in
         (ap (λ (l : List ℕ). writeObject o ++ l) (k .0) ∙ sym f, each-next o n (readObjects n rest .objects) p (k .1))
-    go (not n) (sure.refused m z) behind e = absurd (eqZ-false z e)
+    go (not n) (sure.refused m z) behind e = absurd (eqZ-false (not-nought m z) e)
 
-count-from : (bs : List ℕ) → Bytes bs → From writeNumber (λ n. n ≤ most) bs (readCount bs)
+count-from : (bs : List ℕ) → Bytes bs → From writeNumber bs (readCount bs)
 unfolding readCount
 count-from bs h = go (number-from bs h)
   where
-    go : {r : Reading ℕ} → From writeNumber (λ n. n < numberLimit) bs r
-        → From writeNumber (λ n. n ≤ most) bs (next r (λ n rest. checked (ltb most n) (pos 11) n rest))
+    go : {r : Reading ℕ} → From writeNumber bs r → From writeNumber bs (next r (λ n rest. checked (ltb most n) (pos 11) n rest))
     go (not n) = not n
-    go (from n rest p e) = second (ltb most n) (ltb-false most n)
-      where
-        second : (t : Bool) → (t ≡ false → n ≤ most) → From writeNumber (λ n. n ≤ most) bs (checked t (pos 11) n rest)
-        second true y = not (pos 11)
-        second false y = from n rest (y refl) e
+    go (from n rest e) = from-checked (ltb most n) (pos 11) n rest e
 
 pub record Again (bs : List ℕ) (d : Drawing) : Type 0 where
   pub again : writeDrawing (d .objects) ≡ bs
@@ -106,8 +99,8 @@ pub written-read : (bs : List ℕ) → Bytes bs → readDrawing bs .refusal ≡ 
 unfolding readDrawing writeDrawing
 written-read bs h e = go (count-from bs h) (sure-count bs) e
   where
-    go : {r : Reading ℕ} → From writeNumber (λ n. n ≤ most) bs r → Sure bs r → counted r .refusal ≡ pos 0 → Again bs (counted r)
-    go (from n rest p f) s e =
+    go : {r : Reading ℕ} → From writeNumber bs r → Sure (λ n. n ≤ most) bs r → counted r .refusal ≡ pos 0 → Again bs (counted r)
+    go (from n rest f) (sure.read a front end g p) e =
         let l = readObjects n rest .objects in
         let k = objects-from n rest (behind-bytes (writeNumber n) f h) e in
         let long = objects-length n rest e in
@@ -116,7 +109,7 @@ written-read bs h e = go (count-from bs h) (sure-count bs) e
           again = (λ i. writeNumber (count i) ++ writeObjects (count i) l) ∙ ap (λ (x : List ℕ). writeNumber n ++ x) (k .0) ∙ sym f;
           accepted = is-listable l (record { whole = omega arith; few = omega arith; each = λ i b. k .1 i (omega arith) });
         }
-    go (not n) (sure.refused m z) e = absurd (eqZ-false z e)
+    go (not n) (sure.refused m z) e = absurd (eqZ-false (not-nought m z) e)
 
 -- "two drawings with the same objects have the same bytes"
 pub same-bytes :

@@ -1,96 +1,115 @@
--- A refusal is never 0, and what is left of the bytes is their end. To cite:
---   Sure          what was read, with some bytes in front of the rest; or a refusal that is not 0
+-- What each reading is: what was read has P and some bytes in front of the rest, or the refusal is one of stored bytes. To cite:
+--   Sure, Any       such a reading; P that holds of all
+--   not-nought      such a refusal is not 0
 --   sure-number, sure-coordinate, sure-point, sure-object, sure-count   each reading is so
 -- Assumes nothing.
 use mathlib.Core.Path.{_≡_, refl, sym, ap, _∙_}
-use mathlib.Core.Bool.{Bool, true, false, cond}
+use mathlib.Core.Bool.{Bool, true, false, cond, true≢false}
 use mathlib.Core.List.{List, [], _∷_, _++_, append-assoc}
-use Prim.Native.Nat.{ℕ, zero, suc, _+_, _*_, _-_}
+use Prim.Native.Nat.{ℕ, zero, suc, _≤_}
+use native.Mathlib.Omega.{arith}
+use borrow.Author.Tests.{ltb-false, ne-eqb}
 use lib.Dec.{ltb, eqb}
-use lib.IntN.{ℤ, pos}
+use lib.IntN.{pos}
 use Rattle.whole.specs.Flag.{eqZ}
 use Rattle.sheet.specs.Figure.{Vec}
 use Rattle.sheet.specs.Limits.{most}
-use Rattle.sheet.specs.Refusal.{outside, beyond, equal}
-use Rattle.store.specs.Stored.{Reading, got, no, next, checked, pairOf, readGroups, readNumber, unzigzag, readCoordinate, readPoint, sideObject, readSide, readTo, readPair, readShape, readObject, readCount}
+use Rattle.sheet.specs.Refusal.{outside, beyond, equal, pairRefusal, sideRefusal, objectRefusal, Accepted}
+use Rattle.store.specs.Stored.{group, Reading, got, no, next, checked, pairOf, readGroups, readNumber, unzigzag, readCoordinate, readPoint, readSide, readTo, readPair, readShape, readObject, readCount}
+use Rattle.store.specs.Refusals.{among, ofBytes}
 
-pub data Sure {A : Type 0} (bs : List ℕ) : Reading A → Type 0 where
-  read : (a : A) (front rest : List ℕ) → bs ≡ front ++ rest → Sure bs (got a rest)
-  refused : (n : ℤ) → eqZ n (pos 0) ≡ false → Sure bs (no n)
+pub data Sure {A : Type 0} (P : A → Type 0) (bs : List ℕ) : Reading A → Type 0 where
+  read : (a : A) (front rest : List ℕ) → bs ≡ front ++ rest → P a → Sure P bs (got a rest)
+  refused : (n : ℕ) → among n ofBytes ≡ true → Sure P bs (no (pos n))
+
+pub not-nought : (n : ℕ) → among n ofBytes ≡ true → eqZ (pos n) (pos 0) ≡ false
+not-nought zero e = absurd (true≢false (sym e))
+not-nought (suc n) e = ne-eqb (suc n) 0 (λ z. omega arith)
 
 sure-next :
-    {A B : Type 0} {bs : List ℕ} {r : Reading A} (f : A → List ℕ → Reading B) → Sure bs r → ((a : A) (rest : List ℕ) → Sure rest (f a rest))
-    → Sure bs (next r f)
-sure-next f (refused n z) h = refused n z
-sure-next {A} {B} {bs} f (read a front rest e) h = go (h a rest)
+    {A B : Type 0} {P : A → Type 0} {Q : B → Type 0} {bs : List ℕ} {r : Reading A} {f : A → List ℕ → Reading B} → Sure P bs r
+    → ((a : A) (rest : List ℕ) → P a → Sure Q rest (f a rest)) → Sure Q bs (next r f)
+sure-next (refused n z) h = refused n z
+sure-next {A} {B} {P} {Q} {bs} (read a front rest e p) h = go (h a rest p)
   where
-    go : {s : Reading B} → Sure rest s → Sure bs s
+    go : {s : Reading B} → Sure Q rest s → Sure Q bs s
     go (refused n z) = refused n z
-    go (read b front′ rest′ e′) = read b (front ++ front′) rest′ (e ∙ ap (λ (l : List ℕ). front ++ l) e′ ∙ sym
-        (append-assoc front front′ rest′))
+    go (read b front′ rest′ e′ q) =
+        read b (front ++ front′) rest′ (e ∙ ap (λ (l : List ℕ). front ++ l) e′ ∙ sym (append-assoc front front′ rest′)) q
 
-sure-cond : {A : Type 0} {bs : List ℕ} (t : Bool) {r s : Reading A} → Sure bs r → Sure bs s → Sure bs (cond t r s)
+sure-cond : {A : Type 0} {P : A → Type 0} {bs : List ℕ} (t : Bool) {r s : Reading A} → Sure P bs r → (t ≡ false → Sure P bs s) → Sure P bs (cond t r s)
 sure-cond true h k = h
-sure-cond false h k = k
+sure-cond false h k = k refl
 
-sure-checked : {A : Type 0} (t : Bool) (n : ℤ) (a : A) (rest : List ℕ) → eqZ n (pos 0) ≡ false → Sure rest (checked t n a rest)
-sure-checked t n a rest z = sure-cond t (refused n z) (read a [] rest refl)
+sure-checked :
+    {A : Type 0} {P : A → Type 0} (t : Bool) (n : ℕ) (a : A) (rest : List ℕ) → among n ofBytes ≡ true → (t ≡ false → P a)
+    → Sure P rest (checked t (pos n) a rest)
+sure-checked t n a rest e f = sure-cond t (refused n e) (λ z. read a [] rest refl (f z))
 
-sure-groups : (more : ℕ) (bs : List ℕ) → Sure bs (readGroups more bs)
+-- ---- numbers and points
+
+abbrev pub Any : {A : Type 0} → A → Type 0
+Any a = Unit {0}
+
+sure-groups : (more : ℕ) (bs : List ℕ) → Sure Any bs (readGroups more bs)
 unfolding readGroups
-sure-groups zero [] = refused (pos 7) refl
-sure-groups (suc more) [] = refused (pos 7) refl
-sure-groups zero (b ∷ bs) = sure-cond (ltb b 128) (read b (b ∷ []) bs refl) (refused (pos 8) refl)
-sure-groups (suc more) (b ∷ bs) = sure-cond (ltb b 128) (read b (b ∷ []) bs refl) (go (sure-groups more bs))
+sure-groups zero [] = refused 7 refl
+sure-groups (suc more) [] = refused 7 refl
+sure-groups zero (b ∷ bs) = sure-cond (ltb b group) (read b (b ∷ []) bs refl tt) (λ z. refused 8 refl)
+sure-groups (suc more) (b ∷ bs) =
+    sure-cond (ltb b group) (read b (b ∷ []) bs refl tt)
+    (λ z. go (sure-next (sure-groups more bs) (λ n rest u. sure-checked (eqb n 0) 8 _ rest refl (λ f. tt))))
   where
-    second : (n : ℕ) (front rest : List ℕ) → bs ≡ front ++ rest → (t : Bool) → Sure (b ∷ bs) (checked t (pos 8) (b - 128 + 128 * n) rest)
-    second n front rest e true = refused (pos 8) refl
-    second n front rest e false = read (b - 128 + 128 * n) (b ∷ front) rest (ap (λ (l : List ℕ). b ∷ l) e)
-
-    go : {r : Reading ℕ} → Sure bs r → Sure (b ∷ bs) (next r (λ n rest. checked (eqb n 0) (pos 8) (b - 128 + 128 * n) rest))
+    go : {r : Reading ℕ} → Sure Any bs r → Sure Any (b ∷ bs) r
     go (refused n z) = refused n z
-    go (read n front rest e) = second n front rest e (eqb n 0)
+    go (read n front rest e u) = read n (b ∷ front) rest (ap (λ (l : List ℕ). b ∷ l) e) u
 
-pub sure-number : (bs : List ℕ) → Sure bs (readNumber bs)
+pub sure-number : (bs : List ℕ) → Sure Any bs (readNumber bs)
 sure-number bs = sure-groups 1 bs
 
-pub sure-coordinate : (bs : List ℕ) → Sure bs (readCoordinate bs)
+pub sure-coordinate : (bs : List ℕ) → Sure (λ z. beyond z ≡ false) bs (readCoordinate bs)
 unfolding readCoordinate
-sure-coordinate bs =
-    sure-next (λ n rest. checked (beyond (unzigzag n)) (pos 2) (unzigzag n) rest) (sure-number bs)
-    (λ n rest. sure-checked (beyond (unzigzag n)) (pos 2) (unzigzag n) rest refl)
+sure-coordinate bs = sure-next (sure-number bs) (λ n rest u. sure-checked (beyond (unzigzag n)) 2 _ rest refl (λ e. e))
 
-pub sure-point : (bs : List ℕ) → Sure bs (readPoint bs)
+abbrev Within : Vec → Type 0
+Within p = (beyond (p .x) ≡ false) × (beyond (p .y) ≡ false)
+
+pub sure-point : (bs : List ℕ) → Sure Within bs (readPoint bs)
 unfolding readPoint
 sure-point bs =
-    sure-next (λ x rest. next (readCoordinate rest) (λ y rest. got (pairOf x y) rest)) (sure-coordinate bs)
-    (λ x rest. sure-next (λ y rest. got (pairOf x y) rest) (sure-coordinate rest) (λ y rest. read (pairOf x y) [] rest refl))
+    sure-next (sure-coordinate bs)
+    (λ x rest e. sure-next (sure-coordinate rest) (λ y rest f. read (pairOf x y) [] rest refl (e, f)))
 
-sure-side : (bs : List ℕ) → Sure bs (readSide bs)
-unfolding readSide
+-- ---- objects
+
+sure-side : (bs : List ℕ) → Sure Accepted bs (readSide bs)
+unfolding readSide objectRefusal sideRefusal
 sure-side bs =
-    sure-next (λ n rest. checked (outside (pos 1) (pos 4) (pos n)) (pos 4) (sideObject (pos n)) rest) (sure-number bs)
-    (λ n rest. sure-checked (outside (pos 1) (pos 4) (pos n)) (pos 4) (sideObject (pos n)) rest refl)
+    sure-next (sure-number bs)
+    (λ n rest u. sure-checked (outside (pos 1) (pos 4) (pos n)) 4 _ rest refl (λ e. record { accepted = simp e }))
 
-sure-to : (kind : ℕ) (p : Vec) (bs : List ℕ) → Sure bs (readTo kind p bs)
-unfolding readTo
-sure-to kind p bs = sure-next _ (sure-point bs) (λ q rest. sure-checked (equal (p .x) (p .y) (q .x) (q .y)) (pos 3) _ rest refl)
+module _ (kind : ℕ) (in-range : outside (pos 1) (pos 4) (pos kind) ≡ false) (other : eqb kind 4 ≡ false) where
+  sure-to : (p : Vec) (bs : List ℕ) → Within p → Sure Accepted bs (readTo kind p bs)
+  unfolding readTo objectRefusal pairRefusal
+  sure-to p bs h =
+      sure-next (sure-point bs)
+      (λ q rest k. sure-checked (equal (p .x) (p .y) (q .x) (q .y)) 3 _ rest refl
+      (λ e. record { accepted = simp (in-range, other, h .0, h .1, k .0, k .1, e) }))
 
-sure-pair : (kind : ℕ) (bs : List ℕ) → Sure bs (readPair kind bs)
-unfolding readPair
-sure-pair kind bs = sure-next (λ p rest. readTo kind p rest) (sure-point bs) (λ p rest. sure-to kind p rest)
+  sure-pair : (bs : List ℕ) → Sure Accepted bs (readPair kind bs)
+  unfolding readPair
+  sure-pair bs = sure-next (sure-point bs) (λ p rest h. sure-to p rest h)
 
-sure-shape : (kind : ℕ) (bs : List ℕ) → Sure bs (readShape kind bs)
+sure-shape : (kind : ℕ) (bs : List ℕ) → outside (pos 1) (pos 4) (pos kind) ≡ false → Sure Accepted bs (readShape kind bs)
 unfolding readShape
-sure-shape kind bs = sure-cond (eqb kind 4) (sure-side bs) (sure-pair kind bs)
+sure-shape kind bs e = sure-cond (eqb kind 4) (sure-side bs) (λ f. sure-pair kind e f bs)
 
-pub sure-object : (bs : List ℕ) → Sure bs (readObject bs)
+pub sure-object : (bs : List ℕ) → Sure Accepted bs (readObject bs)
 unfolding readObject
 sure-object bs =
-    sure-next (λ kind rest. cond (outside (pos 1) (pos 4) (pos kind)) (no (pos 1)) (readShape kind rest)) (sure-number bs)
-    (λ kind rest. sure-cond (outside (pos 1) (pos 4) (pos kind)) (refused (pos 1) refl) (sure-shape kind rest))
+    sure-next (sure-number bs)
+    (λ kind rest u. sure-cond (outside (pos 1) (pos 4) (pos kind)) (refused 1 refl) (λ e. sure-shape kind rest e))
 
-pub sure-count : (bs : List ℕ) → Sure bs (readCount bs)
+pub sure-count : (bs : List ℕ) → Sure (λ n. n ≤ most) bs (readCount bs)
 unfolding readCount
-sure-count bs =
-    sure-next (λ n rest. checked (ltb most n) (pos 11) n rest) (sure-number bs) (λ n rest. sure-checked (ltb most n) (pos 11) n rest refl)
+sure-count bs = sure-next (sure-number bs) (λ n rest u. sure-checked (ltb most n) 11 _ rest refl (λ e. ltb-false most n e))

@@ -1,6 +1,6 @@
 -- Numbers and coordinates, written and read again, and back. To cite:
 --   Bytes, behind-bytes   each number of a list is a byte, and so of its end
---   From                  what was read, with what was written for it in front of the rest; or a refusal
+--   From, from-checked    what was read, with what was written for it in front of the rest; or a refusal
 --   number-back, number-from           a stored number
 --   unzigzag-zigzag, zigzag-unzigzag   what is stored for a coordinate
 --   coordinate-back, coordinate-from   a coordinate
@@ -37,16 +37,17 @@ behind-bytes a {bs} {rest} e h = go a (subst Bytes e h)
     go [] h = h
     go (x ∷ a) h = go a (rest-bytes h)
 
--- P is what holds of what is read, and W what is written for it
-pub data From {A : Type 0} (W : A → List ℕ) (P : A → Type 0) (bs : List ℕ) : Reading A → Type 0 where
-  from : (a : A) (rest : List ℕ) → P a → bs ≡ W a ++ rest → From W P bs (got a rest)
-  not : (n : ℤ) → From W P bs (no n)
+-- W is what is written for what is read
+pub data From {A : Type 0} (W : A → List ℕ) (bs : List ℕ) : Reading A → Type 0 where
+  from : (a : A) (rest : List ℕ) → bs ≡ W a ++ rest → From W bs (got a rest)
+  not : (n : ℤ) → From W bs (no n)
+
+pub from-checked :
+    {A : Type 0} {W : A → List ℕ} {bs : List ℕ} (t : Bool) (n : ℤ) (a : A) (rest : List ℕ) → bs ≡ W a ++ rest → From W bs (checked t n a rest)
+from-checked true n a rest e = not n
+from-checked false n a rest e = from a rest e
 
 -- ---- groups
-
-limit-some : (more : ℕ) → 128 ≤ limit more
-limit-some zero = omega arith
-limit-some (suc more) = omega (arith, limit-some more)
 
 groups-back : (more n : ℕ) (rest : List ℕ) → n < limit more → readGroups more (writeGroups more n ++ rest) ≡ got n rest
 unfolding writeGroups readGroups
@@ -64,25 +65,23 @@ groups-back (suc more) n rest h =
         let is : 128 + n % 128 - 128 + 128 * (n / 128) ≡ n = omega arith in
         simp (le-ltb (128 + n % 128) 128 (omega arith), e, ne-eqb (n / 128) 0 some, is)
 
-groups-from : (more : ℕ) (bs : List ℕ) → Bytes bs → From (writeGroups more) (λ n. n < limit more) bs (readGroups more bs)
+groups-from : (more : ℕ) (bs : List ℕ) → Bytes bs → From (writeGroups more) bs (readGroups more bs)
 unfolding writeGroups readGroups
 groups-from zero [] h = not (pos 7)
 groups-from (suc more) [] h = not (pos 7)
-groups-from zero (b ∷ bs) h = go (ltb b 128) (ltb-true b 128)
+groups-from zero (b ∷ bs) h = go (ltb b 128)
   where
-    go : (t : Bool) → (t ≡ true → b < 128) → From (writeGroups zero) (λ n. n < limit zero) (b ∷ bs) (cond t (got b bs) (no (pos 8)))
-    go true y = from b bs (y refl) refl
-    go false y = not (pos 8)
+    go : (t : Bool) → From (writeGroups zero) (b ∷ bs) (cond t (got b bs) (no (pos 8)))
+    go true = from b bs refl
+    go false = not (pos 8)
 groups-from (suc more) (b ∷ bs) h =
     go (ltb b 128) (ltb-true b 128) (ltb-false b 128) (groups-from more bs (rest-bytes h))
   where
-    second : 128 ≤ b → {r : Reading ℕ} → From (writeGroups more) (λ n. n < limit more) bs r
-        → From (writeGroups (suc more)) (λ n. n < limit (suc more)) (b ∷ bs)
-        (next r (λ n rest. checked (eqb n 0) (pos 8) (b - 128 + 128 * n) rest))
-    second l (from n rest p e) = third (eqb n 0) (eqb-false n 0)
+    second : 128 ≤ b → {r : Reading ℕ} → From (writeGroups more) bs r
+        → From (writeGroups (suc more)) (b ∷ bs) (next r (λ n rest. checked (eqb n 0) (pos 8) (b - 128 + 128 * n) rest))
+    second l (from n rest e) = third (eqb n 0) (eqb-false n 0)
       where
-        third : (t : Bool) → (t ≡ false → n ≡ 0 → ⊥)
-            → From (writeGroups (suc more)) (λ n. n < limit (suc more)) (b ∷ bs) (checked t (pos 8) (b - 128 + 128 * n) rest)
+        third : (t : Bool) → (t ≡ false → n ≡ 0 → ⊥) → From (writeGroups (suc more)) (b ∷ bs) (checked t (pos 8) (b - 128 + 128 * n) rest)
         third true z = not (pos 8)
         third false z =
             let some = z refl in
@@ -90,19 +89,19 @@ groups-from (suc more) (b ∷ bs) h =
             let byte : b < 256 = h .each 0 in
             let low : 128 + v % 128 ≡ b = omega arith in
             let high : v / 128 ≡ n = omega arith in
-            from v rest (omega arith) (simp (le-ltb v 128 (omega arith), low, high) (ap (λ (l : List ℕ). b ∷ l) e))
+            from v rest (simp (le-ltb v 128 (omega arith), low, high) (ap (λ (l : List ℕ). b ∷ l) e))
     second l (not n) = not n
 
-    go : (t : Bool) → (t ≡ true → b < 128) → (t ≡ false → 128 ≤ b) → From (writeGroups more) (λ n. n < limit more) bs (readGroups more bs)
-        → From (writeGroups (suc more)) (λ n. n < limit (suc more)) (b ∷ bs)
+    go : (t : Bool) → (t ≡ true → b < 128) → (t ≡ false → 128 ≤ b) → From (writeGroups more) bs (readGroups more bs)
+        → From (writeGroups (suc more)) (b ∷ bs)
         (cond t (got b bs) (next (readGroups more bs) (λ n rest. checked (eqb n 0) (pos 8) (b - 128 + 128 * n) rest)))
-    go true y m f = from b bs (omega (arith, y refl, limit-some more)) (simp (lt-ltb b 128 (y refl)))
+    go true y m f = from b bs (simp (lt-ltb b 128 (y refl)))
     go false y m f = second (m refl) f
 
 pub number-back : (n : ℕ) (rest : List ℕ) → n < numberLimit → readNumber (writeNumber n ++ rest) ≡ got n rest
 number-back n rest h = groups-back 1 n rest h
 
-pub number-from : (bs : List ℕ) → Bytes bs → From writeNumber (λ n. n < numberLimit) bs (readNumber bs)
+pub number-from : (bs : List ℕ) → Bytes bs → From writeNumber bs (readNumber bs)
 number-from bs h = groups-from 1 bs h
 
 -- ---- coordinates
@@ -136,19 +135,16 @@ coordinate-back z rest e =
     let small = beyond-small z e in
     simp (number-back (zigzag z) rest (omega arith), unzigzag-zigzag z, e)
 
-pub coordinate-from : (bs : List ℕ) → Bytes bs → From writeCoordinate (λ z. beyond z ≡ false) bs (readCoordinate bs)
+pub coordinate-from : (bs : List ℕ) → Bytes bs → From writeCoordinate bs (readCoordinate bs)
 unfolding readCoordinate
 coordinate-from bs h = go (number-from bs h)
   where
-    go : {r : Reading ℕ} → From writeNumber (λ n. n < numberLimit) bs r
-        → From writeCoordinate (λ z. beyond z ≡ false) bs (next r (λ n rest. checked (beyond (unzigzag n)) (pos 2) (unzigzag n) rest))
+    go : {r : Reading ℕ} → From writeNumber bs r
+        → From writeCoordinate bs (next r (λ n rest. checked (beyond (unzigzag n)) (pos 2) (unzigzag n) rest))
     go (not n) = not n
-    go (from n rest p e) = second (beyond (unzigzag n)) (λ x. x)
-      where
-        second : (t : Bool) → (t ≡ false → beyond (unzigzag n) ≡ false)
-            → From writeCoordinate (λ z. beyond z ≡ false) bs (checked t (pos 2) (unzigzag n) rest)
-        second true y = not (pos 2)
-        second false y = from (unzigzag n) rest (y refl) (e ∙ ap (λ (k : ℕ). writeNumber k ++ rest) (sym (zigzag-unzigzag n)))
+    go (from n rest e) =
+        from-checked (beyond (unzigzag n)) (pos 2) (unzigzag n) rest
+        (e ∙ ap (λ (k : ℕ). writeNumber k ++ rest) (sym (zigzag-unzigzag n)))
 
 -- ---- points
 
@@ -168,18 +164,18 @@ point-back p rest h =
       coordinate-back (p .y) rest (h .in-y),
     )
 
-pub point-from : (bs : List ℕ) → Bytes bs → From writeSpot Near bs (readPoint bs)
+pub point-from : (bs : List ℕ) → Bytes bs → From writeSpot bs (readPoint bs)
 unfolding readPoint
 point-from bs h = go (coordinate-from bs h)
   where
-    second : (x : ℤ) (rest : List ℕ) → beyond x ≡ false → bs ≡ writeCoordinate x ++ rest → {r : Reading ℤ}
-        → From writeCoordinate (λ z. beyond z ≡ false) rest r → From writeSpot Near bs (next r (λ y rest. got (pairOf x y) rest))
-    second x rest p e (not n) = not n
-    second x rest p e (from y rest′ q f) =
-        from (pairOf x y) rest′ (record { in-x = p; in-y = q })
+    second : (x : ℤ) (rest : List ℕ) → bs ≡ writeCoordinate x ++ rest → {r : Reading ℤ} → From writeCoordinate rest r
+        → From writeSpot bs (next r (λ y rest. got (pairOf x y) rest))
+    second x rest e (not n) = not n
+    second x rest e (from y rest′ f) =
+        from (pairOf x y) rest′
         (e ∙ ap (λ (l : List ℕ). writeCoordinate x ++ l) f ∙ sym (append-assoc (writeCoordinate x) (writeCoordinate y) rest′))
 
-    go : {r : Reading ℤ} → From writeCoordinate (λ z. beyond z ≡ false) bs r
-        → From writeSpot Near bs (next r (λ x rest. next (readCoordinate rest) (λ y rest. got (pairOf x y) rest)))
+    go : {r : Reading ℤ} → From writeCoordinate bs r
+        → From writeSpot bs (next r (λ x rest. next (readCoordinate rest) (λ y rest. got (pairOf x y) rest)))
     go (not n) = not n
-    go (from x rest p e) = second x rest p e (coordinate-from rest (behind-bytes (writeCoordinate x) e h))
+    go (from x rest e) = second x rest e (coordinate-from rest (behind-bytes (writeCoordinate x) e h))

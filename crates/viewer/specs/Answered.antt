@@ -1,18 +1,14 @@
 -- What the calls can answer at all: which refusals, and that a refusal is no sign. Definitions alone; AnsweredLaws proves them of the calls.
 use mathlib.Core.Path.{_≡_}
-use mathlib.Core.Bool.{Bool, true, false, _||_}
-use mathlib.Core.List.{List, [], _∷_}
+use mathlib.Core.Bool.{true}
+use mathlib.Core.List.{List, _∷_}
 use Prim.Native.Nat.{ℕ}
-use lib.Dec.{eqb}
 use lib.IntN.{ℤ, pos, _+ℤ_}
 use Rattle.whole.specs.Bound.{Within}
 use Rattle.sheet.specs.Signs.{sideSign}
 use Rattle.store.specs.Stored.{Drawing}
+use Rattle.store.specs.Refusals.{among, ofBytes}
 use Rattle.viewer.specs.Calls.{object, whole, callRefusal}
-
-abbrev pub among : ℕ → List ℕ → Bool
-among n [] = false
-among n (m ∷ ms) = eqb n m || among n ms
 
 -- one of the numbers
 pub record OneOf (ms : List ℕ) (z : ℤ) : Type 0 where
@@ -20,12 +16,7 @@ pub record OneOf (ms : List ℕ) (z : ℤ) : Type 0 where
   pub is : z ≡ pos number
   pub one : among number ms ≡ true
 
--- the refusals of stored bytes: kind, coordinate, p equals q, side number; bytes that end, a number's groups, bytes after the last object,
--- more than 512
-abbrev pub ofBytes : List ℕ
-ofBytes = 1 ∷ 2 ∷ 3 ∷ 4 ∷ 7 ∷ 8 ∷ 9 ∷ 11 ∷ []
-
--- those of a side: the index as well; that of the point, 2, is among them
+-- the refusals of a side: those of the bytes, and the index; that of the point, 2, is among them
 abbrev pub ofSide : List ℕ
 ofSide = 13 ∷ ofBytes
 

@@ -23,8 +23,9 @@ use Rattle.sheet.specs.Lists.{countOf}
 use Rattle.sheet.specs.ListsLaws.{index-below}
 use Rattle.sheet.specs.Flags.{cond-zero}
 use Rattle.store.specs.Stored.{Drawing, readDrawing}
+use Rattle.store.specs.Refusals.{ofBytes}
 use Rattle.viewer.specs.Calls.{checkAnswer, object, whole, indexRefusal, placeRefusal, callRefusal, sideIn, sideAnswer}
-use Rattle.viewer.specs.Answered.{OneOf, ofBytes, ofSide, Answered, a-sign, a-refusal}
+use Rattle.viewer.specs.Answered.{OneOf, ofSide, Answered, a-sign, a-refusal}
 use Rattle.viewer.specs.ReadingLaws.{one-of, one-more, split, bytes-refusal, good}
 use Rattle.viewer.specs.CallsLaws.{side-taken}
 

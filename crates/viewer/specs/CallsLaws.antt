@@ -35,8 +35,9 @@ use Rattle.store.specs.declared.Place.{Place}
 use Rattle.store.specs.declared.Item.the-variants.{One, End}
 use Rattle.store.specs.Stored.{Drawing, readDrawing}
 use Rattle.store.specs.Reader.{stepOf, callFrom, endOf, itemOf}
+use Rattle.store.specs.Refusals.{ofBytes}
 use Rattle.viewer.specs.Calls.{object, whole, indexRefusal, placeRefusal, signOr, sideIn}
-use Rattle.viewer.specs.Answered.{OneOf, ofBytes}
+use Rattle.viewer.specs.Answered.{OneOf}
 use Rattle.viewer.specs.ReadingLaws.{split, bytes-refusal}
 
 pub call-more : (bs : List ℕ) (p : Place) (k : ℕ) → 0 < k → callFrom bs p k ≡ callFrom bs (stepOf bs p .place) (k - 1)

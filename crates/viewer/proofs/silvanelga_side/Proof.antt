@@ -123,7 +123,7 @@ side-for-requires c κs =
     let k = c .before .before .before in
     let s = k .before .before .before .before .before in
     let i = c .before .item .given in
-    record { accepted = item-accepted (stored s) (natAbs (s .args .i)) (i .0 .0) (sym (stands k) ∙ i .1) }
+    item-accepted (stored s) (natAbs (s .args .i)) (i .0 .0) (sym (stands k) ∙ i .1)
 
 returns-4 : tie.Need-returns-4
 returns-4 c =
