@@ -1,7 +1,7 @@
 /* How many instructions a listing takes: the processor stops after each one, and the stops are counted. It is no clock: the counts are the
    same on a busy machine. Two listings of one sheet, whose pairs all share something: into no room, which is refused with 10 after one
    crossing a pair, and into room for exactly every pair, which is to take one crossing a pair as well.
-   Standard output: both counts. */
+   Standard output: how many pairs, and both counts. */
 #include <signal.h>
 #include <stdint.h>
 #include <stdio.h>
@@ -39,6 +39,6 @@ int main(void)
     signal(SIGTRAP, stopped);
     long refused = counted(list, rows, 0, SHORT);
     long filled = counted(list, rows, PAIRS * ROW, 0);
-    printf("%ld %ld\n", refused, filled);
+    printf("%d %ld %ld\n", PAIRS, refused, filled);
     return 0;
 }
