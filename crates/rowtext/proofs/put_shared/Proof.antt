@@ -3,8 +3,7 @@ use mathlib.Core.Path.{sym}
 use Prim.Native.Nat.{_+_}
 use lib.IntN.{pos}
 use lib.ListN.{getD}
-use Rattle.whole.specs.Bound.{fits64, w-pos}
-use Rattle.whole.specs.Tests.{fits-ok, eq-taken, eq-left}
+use Rattle.whole.specs.Tests.{fits-ok, eq-left, lit-taken}
 use Rattle.rowtext.specs.TextLaws.{shared-point, shared-many}
 use Rattle.rowtext.specs.WroteLaws.{wrote-more, wrote-as}
 use borrow.Author.Needs.{needs}
@@ -43,7 +42,7 @@ returns c =
     let l = s .args .list .now in
     let from = s .args .from in
     let fits = fits-ok (getD l (from + 2) (pos 0)) (test .before .how .given) in
-    let how = eq-taken fits (fits64 (w-pos 1) tt) (test .if1 .taken) in
+    let how = lit-taken 1 tt fits (test .if1 .taken) in
     let word = first .put-text .ensures in
     let five = c .before .before .put-numbers .ensures in
     wrote-as (wrote-more word five) (sym (shared-point l from how))

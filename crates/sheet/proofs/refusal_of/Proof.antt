@@ -1,7 +1,6 @@
 use mathlib.Core.Path.{_≡_, sym, _∙_}
 use lib.IntN.{pos}
-use Rattle.whole.specs.Bound.{fits64, w-pos}
-use Rattle.whole.specs.Tests.{out-is, out-ok, eq-taken, eq-left, eq-eqZ, ne-eqZ}
+use Rattle.whole.specs.Tests.{out-is, out-ok, eq-left, eq-eqZ, ne-eqZ, lit-taken}
 use Rattle.sheet.specs.Refusal.{outside}
 use borrow.Author.Needs.{needs}
 use Rattle.sheet.proofs.refusal_of.Statement.{statement}
@@ -22,7 +21,7 @@ side-refusal-requires c κs = search needs
 returns-2 : tie.Need-returns-2
 returns-2 c =
     let s = c .before .before .before .before in
-    let four = eq-eqZ (eq-taken (s .fits .kind) (fits64 (w-pos 4) tt) (c .before .if2 .taken)) in
+    let four = eq-eqZ (lit-taken 4 tt (s .fits .kind) (c .before .if2 .taken)) in
     out-ok (c .side-refusal .result) (c .side-refusal .ok)
     ∙ simp (
       sym (kind (c .before .before .before)) ∙ c .before .before .if1 .left,

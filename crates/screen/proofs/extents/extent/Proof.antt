@@ -5,8 +5,8 @@ use Prim.Native.Nat.{ℕ, _%_}
 use native.Mathlib.Omega.{arith}
 use lib.IntN.{pos}
 use lib.ListN.{length}
-use Rattle.whole.specs.Bound.{Within, fits64, w-pos, w-is}
-use Rattle.whole.specs.Tests.{out, fits-ok, eq-taken, eq-left, gave}
+use Rattle.whole.specs.Bound.{Within, w-is}
+use Rattle.whole.specs.Tests.{out, fits-ok, eq-left, gave, lit-taken}
 use Rattle.sheet.specs.Figure.{Vec}
 use Rattle.screen.specs.Quotient.{float}
 use Rattle.sheet.specs.Lists.{width, countOf}
@@ -77,7 +77,7 @@ returns : tie.Need-returns
 returns c =
     let r = c .before .before .farthest-end in
     let s = c .before .before .before in
-    let top = sym (r .ensures) ∙ eq-taken (fits-ok (r .result) (r .ok)) (fits64 (w-pos 2001) tt) (c .before .if1 .taken) in
+    let top = sym (r .ensures) ∙ lit-taken 2001 tt (fits-ok (r .result) (r .ok)) (c .before .if1 .taken) in
     c .nothing .ensures ∙ sym (ap extentOf (no-end (ends s) (all-small s) top))
 
 farthest-end-requires-2 : tie.Need-farthest-end-requires-2

@@ -1,9 +1,8 @@
 use mathlib.Core.Path.{sym, _∙_, ap, ap₂}
 use mathlib.Core.Bool.{Bool}
 use lib.IntN.{ℤ, pos}
-use Rattle.whole.specs.Bound.{fits64, w-pos}
 use Rattle.whole.specs.Flag.{eqZ}
-use Rattle.whole.specs.Tests.{eq-eqZ, ne-eqZ, eq-taken, eq-left, out-is, gave}
+use Rattle.whole.specs.Tests.{eq-eqZ, ne-eqZ, eq-left, out-is, gave, lit-taken}
 use Rattle.screen.specs.Extents.{farther}
 use Rattle.screen.specs.ExtentsLaws.{steppedBy}
 use borrow.Author.Needs.{needs}
@@ -24,7 +23,7 @@ returns c =
     let s = c .before .before .before in
     let inner = gave (c .before .pick .ok) (c .before .pick .ensures)
     ∙ (λ i. farther (s .args .up) (out-is (s .fits .far) i) (out-is (s .fits .p) i)) in
-    let one = eq-eqZ (eq-taken (s .fits .kind) (fits64 (w-pos 1) tt) (c .before .before .if1 .taken)) in
+    let one = eq-eqZ (lit-taken 1 tt (s .fits .kind) (c .before .before .if1 .taken)) in
     gave (c .pick2 .ok) (c .pick2 .ensures)
     ∙ (λ i. farther (s .args .up) (inner i) (out-is (s .fits .q) i))
     ∙ sym (ap (λ (t : Bool). chosen s t (eqZ (s .args .kind) (pos 2))) one)
@@ -36,7 +35,7 @@ returns-2 : tie.Need-returns-2
 returns-2 c =
     let s = c .before .before .before in
     let one = ne-eqZ {a = s .args .kind} {b = pos 1} (eq-left (c .before .before .if1 .left)) in
-    let two = eq-eqZ (eq-taken (s .fits .kind) (fits64 (w-pos 2) tt) (c .before .if2 .taken)) in
+    let two = eq-eqZ (lit-taken 2 tt (s .fits .kind) (c .before .if2 .taken)) in
     gave (c .pick3 .ok) (c .pick3 .ensures)
     ∙ (λ i. farther (s .args .up) (out-is (s .fits .far) i) (out-is (s .fits .p) i))
     ∙ sym (ap₂ (chosen s) one two)

@@ -2,10 +2,9 @@
 use borrow.Author.Needs.{needs}
 use mathlib.Core.Path.{_≡_}
 use native.Mathlib.Omega.{arith}
-use Rattle.whole.specs.Tests.{out-is, eq-eqZ, ne-eqZ, eq-taken, eq-left}
+use Rattle.whole.specs.Tests.{out-is, eq-eqZ, ne-eqZ, eq-left, lit-taken}
 use lib.IntN.{pos}
 use lib.ListN.{length, length-append}
-use Rattle.whole.specs.Bound.{fits64, w-pos}
 use Rattle.store.specs.Stored.{writePoint, writeShape}
 use Rattle.store.specs.WriteLaws.{point-size}
 use Rattle.store.proofs.writing.shape_size.Statement.{statement}
@@ -21,7 +20,7 @@ returns : tie.Need-returns
 unfolding writeShape
 returns c =
     let s = c .before .before .before in
-    let four = eq-eqZ (eq-taken (s .fits .kind) (fits64 (w-pos 4) tt) (c .before .before .if1 .taken)) in
+    let four = eq-eqZ (lit-taken 4 tt (s .fits .kind) (c .before .before .if1 .taken)) in
     simp four (simp (c .before .size .ensures, out-is, s .fits .px) at (c .number-size .ensures))
 
 point-size-requires : tie.Need-point-size-requires

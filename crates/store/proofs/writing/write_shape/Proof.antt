@@ -1,9 +1,8 @@
 -- `write_shape` meets its contract: by the kind. Assumes nothing.
 use borrow.Author.Needs.{needs}
 use native.Mathlib.Omega.{arith}
-use Rattle.whole.specs.Tests.{out-is, eq-eqZ, ne-eqZ, eq-taken, eq-left}
+use Rattle.whole.specs.Tests.{out-is, eq-eqZ, ne-eqZ, eq-left, lit-taken}
 use lib.IntN.{pos}
-use Rattle.whole.specs.Bound.{fits64, w-pos}
 use Rattle.store.specs.Stored.{writeShape}
 use Rattle.store.proofs.writing.write_shape.Statement.{statement}
 use Rattle.store.proofs.writing.write_shape.Tie as tie
@@ -15,7 +14,7 @@ write-number-requires : tie.Need-write-number-requires
 unfolding writeShape
 write-number-requires c κs =
     let s = c .before .before .before .before in
-    let four = eq-eqZ (eq-taken (s .fits .kind) (fits64 (w-pos 4) tt) (c .before .before .if1 .taken)) in
+    let four = eq-eqZ (lit-taken 4 tt (s .fits .kind) (c .before .before .if1 .taken)) in
     let room = simp four at (s .pre .1) in
     simp (c .before .size .ensures, out-is, s .fits .px) (omega (arith, s .pre .0 .px), room)
 
@@ -26,7 +25,7 @@ returns : tie.Need-returns
 unfolding writeShape
 returns c =
     let s = c .before .before .before .before .before .before .before in
-    let four = eq-eqZ (eq-taken (s .fits .kind) (fits64 (w-pos 4) tt) (c .before .before .before .before .before .if1 .taken)) in
+    let four = eq-eqZ (lit-taken 4 tt (s .fits .kind) (c .before .before .before .before .before .if1 .taken)) in
     simp four (simp (c .before .before .before .before .size .ensures, out-is, s .fits .px) at (c .before .before .write-number .ensures))
 
 write-pair-requires : tie.Need-write-pair-requires
