@@ -1,16 +1,5 @@
--- How large R has to be.
+-- How large R has to be: what each law needs, by the limits of the paper. A frame for smaller sheets changes these numbers.
 use Prim.Native.Nat.{ℕ}
-use lib.IntN.{ℤ, pos}
-
--- "Take any whole R of 2,000,000,000,000,000,000 or more"
-abbrev pub frameBound : ℤ
-frameBound = pos 2000000000000000000
-
--- ends, order, side, crossing and equal numbers hold from here on; only turn needs more
-abbrev pub smallBound : ℤ
-smallBound = pos 1000000000000000
-
--- ---- what each law needs, by the limits of the paper: a frame for smaller sheets changes these numbers
 
 -- ends: a frame point's n is 8,000,000 at most
 abbrev pub endsNeed : ℕ

@@ -1,6 +1,7 @@
 -- Demand 3. To cite:
 --   demand-3    every R of 2,000,000,000,000,000,000 or more: ends, order, turn, side, crossing, equal numbers (`Claims` says what each is)
 --   from-small  all but turn, for every R of 1,000,000,000,000,000 or more
+--   at-the-bound, at-the-small-bound   the two bounds are among them
 use mathlib.Core.Path.{subst}
 use lib.IntN.{ℤ, pos}
 use lib.Signed.{_≤ℤ_, ltZ-yes, leZ-yes}
@@ -12,7 +13,7 @@ use Rattle.sheet.specs.PointsLaws.{point-is, narrow-is, point-sizes}
 use Rattle.sheet.specs.Ends.{firstEnd, lastEnd}
 use Rattle.sheet.specs.Signs.{sideSign}
 use Rattle.sheet.specs.Crossing.{none, many}
-use Rattle.cut.specs.Bounds.{frameBound, smallBound, endsNeed, crossingNeed}
+use Rattle.cut.specs.Bounds.{endsNeed, crossingNeed}
 use Rattle.cut.specs.Place.{spot}
 use Rattle.cut.specs.Cut.{MoreShared, NothingShared}
 use Rattle.cut.specs.Claims.{EndsHold, CrossingHolds, Holds, DemandAt}
@@ -52,7 +53,8 @@ crossing-holds {R} hR {a} {b} s t =
     nothing : Tells R a b none → NothingShared R a b
     nothing (tells-none n) = n
 
-pub from-small : (R : ℤ) → smallBound ≤ℤ R → Holds R
+-- ends, order, side, crossing and equal numbers; only turn needs more
+pub from-small : (R : ℤ) → pos 1000000000000000 ≤ℤ R → Holds R
 unfolding sideSign
 from-small R hR = record {
   above = λ p i. point-sizes (point-is p .0 i) .in-w .above;
@@ -63,10 +65,19 @@ from-small R hR = record {
   same-numbers = λ p q i j h k e. same-numbers-at (<-≤-trans (ltZ-yes tt) hR) (point-is p .0 i) (point-is q .0 j) h k e;
 }
 
-pub demand-3 : (R : ℤ) → frameBound ≤ℤ R → DemandAt R
+-- "Take any whole R of 2,000,000,000,000,000,000 or more"
+pub demand-3 : (R : ℤ) → pos 2000000000000000000 ≤ℤ R → DemandAt R
 demand-3 R hR = record {
   holds = from-small R (≤-trans (leZ-yes tt) hR);
   turns = λ p q s i j m np nq ns h k l.
       turn-at (<-≤-trans (ltZ-yes tt) hR) (point-is p .0 i) (point-is q .0 j) (point-is s .0 m)
       (narrow-is p .0 np) (narrow-is q .0 nq) (narrow-is s .0 ns) h k l;
 }
+
+-- ---- the bounds themselves are taken
+
+pub at-the-bound : DemandAt (pos 2000000000000000000)
+at-the-bound = demand-3 (pos 2000000000000000000) (leZ-yes tt)
+
+pub at-the-small-bound : Holds (pos 1000000000000000)
+at-the-small-bound = from-small (pos 1000000000000000) (leZ-yes tt)

@@ -1,11 +1,12 @@
 -- Demand 3, of the code. To cite:
---   demand   for every R of 2,000,000,000,000,000,000 or more and every input, an answer that meets the contract of a public call is
---            what the cut pieces at R say, or the refusal that the paper names
+--   demand         for every R of 2,000,000,000,000,000,000 or more and every input, an answer that meets the contract of a public call
+--                  is what the cut pieces at R say, or the refusal that the paper names
+--   at-the-bound   that R is among them
 -- The contracts are the functions' own (`Post`), which the kernel's code is proved to meet.
-use mathlib.Core.Path.{_≡_, refl, sym, _∙_, subst}
+use mathlib.Core.Path.{_≡_, refl, sym, ap, _∙_, subst}
 use mathlib.Core.List.{List, [], _∷_, _++_}
 use lib.IntN.{ℤ, pos, ℤ-discrete}
-use lib.Signed.{_≤ℤ_}
+use lib.Signed.{_≤ℤ_, leZ-yes}
 use contract.Lifetimes.{Lfts}
 use Rattle.sheet.specs.declared.Object.{Object}
 use Rattle.sheet.specs.declared.Point.{Point}
@@ -15,7 +16,7 @@ use Rattle.sheet.specs.declared.Signed.{Signed}
 use Rattle.sheet.specs.declared.Signed.the-variants as signed
 use Rattle.sheet.specs.declared.Crossing.{Crossing}
 use Rattle.sheet.specs.declared.Crossing.the-variants as crossing
-use Rattle.sheet.specs.Refusal.{objectRefusal}
+use Rattle.sheet.specs.Refusal.{Accepted, objectRefusal}
 use Rattle.sheet.specs.Points.{numbers}
 use Rattle.sheet.specs.Ends.{firstEnd, lastEnd}
 use Rattle.sheet.specs.Signs.{order, turn, sideSign, orderRefusal, turnRefusal, sideSignRefusal}
@@ -23,7 +24,7 @@ use Rattle.sheet.specs.Answers.{answer, endsSay, signedSays, meetingNumbers, cr
 use Rattle.sheet.specs.AnswersLaws.{accepted, refused, ends-one, signed-one, crossing-one}
 use Rattle.sheet.specs.AcceptsLaws.{order-taken, turn-taken, side-taken, cross-taken}
 use Rattle.sheet.specs.Crossing.{Meeting, none, point, many, crossingOf, crossingRefusal}
-use Rattle.cut.specs.Bounds.{frameBound}
+use Rattle.sheet.specs.CrossingLaws.{crossing-refusal}
 use Rattle.cut.specs.Claims.{EndsHold, CrossingHolds, DemandAt}
 use Rattle.cut.specs.Demand.{demand-3}
 use Rattle.kernel.proofs.ends.ends_of.Reads as ends-of
@@ -31,7 +32,7 @@ use Rattle.kernel.proofs.crossing.cross.Reads as cross
 use Rattle.kernel.proofs.signs.order_points.Reads as order-points
 use Rattle.kernel.proofs.signs.turn_points.Reads as turn-points
 use Rattle.kernel.proofs.signs.side_of.Reads as side-of
-use Rattle.demand.specs.Said.{PieceEnds, EndsSaid, ends-refused, ends-given, OrderSaid, order-refused, order-given, TurnSaid, turn-refused, turn-given, SideSaid, side-refused, side-given, CrossSaid, cross-refused, cross-none, cross-point, cross-many}
+use Rattle.demand.specs.Said.{PieceEnds, EndsSaid, ends-refused, ends-given, OrderSaid, order-refused, order-given, TurnSaid, turn-refused, turn-given, SideSaid, side-refused, side-given, Exactly, CrossSaid, cross-refused, cross-given}
 
 -- an answer that says what `answer` does is `given` where the refusal n is 0, and else `other`, which says n
 said :
@@ -44,7 +45,8 @@ said one F {n} {values} given other f g h k r e = go (ℤ-discrete n (pos 0))
     go (yes z) = subst F (sym (one r given (e ∙ accepted values z ∙ sym f))) (h z)
     go (no d) = subst F (sym (one r other (e ∙ refused values d ∙ sym g))) (k d)
 
--- a crossing as it is answered
+-- ---- a crossing as it is answered, and back
+
 abbrev told : Meeting → Crossing
 told none = crossing.Nothing
 told (point p) = crossing.Once p
@@ -54,6 +56,33 @@ told-says : (m : Meeting) → crossingSays (told m) ≡ pos 0 ∷ meetingNumbers
 told-says none = refl
 told-says (point p) = refl
 told-says many = refl
+
+abbrev meant : Crossing → Meeting
+meant crossing.Nothing = none
+meant (crossing.Once p) = point p
+meant crossing.Many = many
+meant (crossing.Refused n) = none
+
+told-meant : (m : Meeting) → meant (told m) ≡ m
+told-meant none = refl
+told-meant (point p) = refl
+told-meant many = refl
+
+told-one : {m n : Meeting} → told m ≡ told n → m ≡ n
+told-one {m} {n} e = sym (told-meant m) ∙ ap meant e ∙ told-meant n
+
+abbrev Given : Crossing → Type 0
+Given crossing.Nothing = Unit {0}
+Given (crossing.Once p) = Unit {0}
+Given crossing.Many = Unit {0}
+Given (crossing.Refused n) = ⊥
+
+told-given : (m : Meeting) → Given (told m)
+told-given none = tt
+told-given (point p) = tt
+told-given many = tt
+
+-- ---- each call
 
 module _ (R : ℤ) (d : DemandAt R) where
   piece-ends : {o : Object} → EndsHold R o → PieceEnds R o (firstEnd o) (lastEnd o)
@@ -102,17 +131,26 @@ module _ (R : ℤ) (d : DemandAt R) where
       side-given z l (sym (d .holds .sides o (i .0) t (i .1) l)))
       (side-refused refl)
 
+  exactly : {a b : Object} → CrossingHolds R a b → Exactly R a b (told (crossingOf a b))
+  exactly {a} {b} h = record {
+    not-refused = λ n e. subst Given e (told-given (crossingOf a b));
+    point-said = λ e q. h .point-said e (told-one q);
+    point-when = λ P o.
+        let w = h .point-when P o in record { e = w .e; is-said = ap told (w .is-said); above = w .above; there = w .there };
+    many-exactly = (λ q. h .many-exactly .0 (told-one q), λ w. ap told (h .many-exactly .1 w));
+    none-exactly = (λ q. h .none-exactly .0 (told-one q), λ w. ap told (h .none-exactly .1 w));
+  }
+
   cross-said :
       (a b : Object) (r : Crossing) → crossingSays r ≡ answer (crossingRefusal a b) (meetingNumbers (crossingOf a b)) → CrossSaid R a b r
   cross-said a b =
       said crossing-one (CrossSaid R a b) (told (crossingOf a b)) (crossing.Refused (crossingRefusal a b)) (told-says (crossingOf a b)) refl
-      (λ z. let t = cross-taken a b z in by (crossingOf a b) refl z (d .holds .crossings a b (t .0) (t .1)))
+      (λ z. let t = cross-taken a b z in cross-given z (exactly (d .holds .crossings a b (t .0) (t .1))))
       (cross-refused refl)
-    where
-      by : (m : Meeting) → crossingOf a b ≡ m → crossingRefusal a b ≡ pos 0 → CrossingHolds R a b → CrossSaid R a b (told m)
-      by none q z h = cross-none z (h .none-exactly .0 q)
-      by (point p) q z h = cross-point z (h .point-said p q)
-      by many q z h = cross-many z (h .many-exactly .0 q)
+
+cross-exactly : {R : ℤ} {a b : Object} {r : Crossing} → Accepted a → Accepted b → CrossSaid R a b r → Exactly R a b r
+cross-exactly s t (cross-refused e n) = absurd (n (e ∙ crossing-refusal s t))
+cross-exactly s t (cross-given z h) = h
 
 -- ---- the demand
 
@@ -122,9 +160,13 @@ pub record CodeAt (R : ℤ) : Type 0 where
   pub turns : (κs : Lfts 0) (p q t : Point) (r : Signed)
       → turn-points.Post κs (p, (q, (t, tt))) r (p, (q, (t, tt))) → TurnSaid R p q t r
   pub crossings : (κs : Lfts 0) (a b : Object) (r : Crossing) → cross.Post κs (a, (b, tt)) r (a, (b, tt)) → CrossSaid R a b r
+  -- two accepted objects are not refused
+  pub accepted-crossings : (κs : Lfts 0) (a b : Object) (r : Crossing)
+      → Accepted a → Accepted b → cross.Post κs (a, (b, tt)) r (a, (b, tt)) → Exactly R a b r
   pub sides : (κs : Lfts 0) (o : Object) (t : Point) (r : Signed) → side-of.Post κs (o, (t, tt)) r (o, (t, tt)) → SideSaid R o t r
 
-pub demand : (R : ℤ) → frameBound ≤ℤ R → CodeAt R
+-- "Take any whole R of 2,000,000,000,000,000,000 or more"
+pub demand : (R : ℤ) → pos 2000000000000000000 ≤ℤ R → CodeAt R
 demand R hR =
     let d = demand-3 R hR in
     record {
@@ -132,5 +174,10 @@ demand R hR =
       orders = λ κs p q r. order-said R d p q r;
       turns = λ κs p q t r. turn-said R d p q t r;
       crossings = λ κs a b r. cross-said R d a b r;
+      accepted-crossings = λ κs a b r s t e. cross-exactly s t (cross-said R d a b r e);
       sides = λ κs o t r. side-said R d o t r;
     }
+
+-- the bound itself is taken
+pub at-the-bound : CodeAt (pos 2000000000000000000)
+at-the-bound = demand (pos 2000000000000000000) (leZ-yes tt)

@@ -1,5 +1,6 @@
 -- What demand 3 says of an answer of the code: refused by the paper's number, or not refused there, and what the cut pieces at R say.
 use mathlib.Core.Path.{_≡_}
+use mathlib.Core.Logic.{_↔_}
 use lib.IntN.{ℤ, pos}
 use lib.Signed.{_<ℤ_}
 use Rattle.sheet.specs.declared.Object.{Object}
@@ -13,9 +14,9 @@ use Rattle.sheet.specs.declared.Crossing.the-variants as crossing
 use Rattle.sheet.specs.Figure.{figure}
 use Rattle.sheet.specs.Refusal.{objectRefusal}
 use Rattle.sheet.specs.Signs.{orderRefusal, turnRefusal, sideSignRefusal}
-use Rattle.cut.specs.Place.{Place, put, spot}
 use Rattle.sheet.specs.Crossing.{crossingRefusal}
-use Rattle.cut.specs.Cut.{Upto, Lies, NothingShared, MoreShared}
+use Rattle.cut.specs.Place.{Place, SamePlace, put, spot}
+use Rattle.cut.specs.Cut.{Upto, Lies, OnlyShared, MoreShared, NothingShared}
 use Rattle.cut.specs.Claims.{SharedPoint}
 use Rattle.cut.specs.Ordinary.{Ordered, determinant, signOf, way, tail, tip}
 
@@ -47,10 +48,22 @@ pub data SideSaid (R : ℤ) (o : Object) (t : Point) : Signed → Type 0 where
   side-given : {s : ℤ} → sideSignRefusal o t ≡ pos 0 → (l : pos 0 <ℤ t .w)
       → s ≡ signOf (determinant (tail R (figure o)) (tip R (figure o)) (put R t l)) → SideSaid R o t (signed.Sign s)
 
+-- the answer r is a point, and P is its place
+pub record AnsweredOnce (R : ℤ) (r : Crossing) (P : Place) : Type 0 where
+  pub e : Point
+  pub is-said : r ≡ crossing.Once e
+  pub above : pos 0 <ℤ e .w
+  pub there : SamePlace P (put R e above)
+
 -- "crossing says point exactly when two cut pieces share one point, and gives it, many exactly when they share more, none exactly when
--- they share nothing": what it says holds, and since what two pieces share is one of the three, it says so exactly then
+-- they share nothing"
+pub record Exactly (R : ℤ) (a b : Object) (r : Crossing) : Type 0 where
+  pub not-refused : (n : ℤ) → r ≡ crossing.Refused n → ⊥
+  pub point-said : (e : Point) → r ≡ crossing.Once e → SharedPoint R a b e
+  pub point-when : (P : Place) → OnlyShared R a b P → AnsweredOnce R r P
+  pub many-exactly : (r ≡ crossing.Many) ↔ MoreShared R a b
+  pub none-exactly : (r ≡ crossing.Nothing) ↔ NothingShared R a b
+
 pub data CrossSaid (R : ℤ) (a b : Object) : Crossing → Type 0 where
   cross-refused : {n : ℤ} → n ≡ crossingRefusal a b → (n ≡ pos 0 → ⊥) → CrossSaid R a b (crossing.Refused n)
-  cross-none : crossingRefusal a b ≡ pos 0 → NothingShared R a b → CrossSaid R a b crossing.Nothing
-  cross-point : {e : Point} → crossingRefusal a b ≡ pos 0 → SharedPoint R a b e → CrossSaid R a b (crossing.Once e)
-  cross-many : crossingRefusal a b ≡ pos 0 → MoreShared R a b → CrossSaid R a b crossing.Many
+  cross-given : {r : Crossing} → crossingRefusal a b ≡ pos 0 → Exactly R a b r → CrossSaid R a b r

@@ -1,4 +1,5 @@
 -- Pieces that are put into lent cells. To cite:
+--   filled-front   a call that is not refused has its whole result at the front
 --   sets-two     one piece behind the other is both at once
 --   sets-front   a piece at the front: the piece, and then what stood behind it
 --   room-one, room-two             room for both is room for the first, and then for the second
@@ -7,14 +8,28 @@
 --   wrote-length, wrote-front      as many cells as before; what stands there when the piece was put at the front
 -- Assumes nothing.
 use mathlib.Core.Path.{_≡_, refl, ap, subst, _∙_}
+use mathlib.Core.Bool.{cond}
 use mathlib.Core.List.{List, [], _∷_, _++_}
 use Prim.Native.Nat.{ℕ, suc, _+_, _≤_}
 use native.Mathlib.Omega.{arith}
-use lib.ListN.{length, set, drop, length-append}
-use lib.Seq.{sets, sets-eq, length-sets}
-use Rattle.sheet.specs.Lent.{Wrote}
+use lib.IntN.{ℤ, pos}
+use lib.ListN.{length, set, take, drop, length-append}
+use lib.Seq.{sets, sets-eq, length-sets, take-append-seam}
+use Rattle.whole.specs.Tests.{eq-eqZ}
+use Rattle.sheet.specs.AnswersLaws.{or-zero}
+use Rattle.sheet.specs.Lent.{roomRefusal, lengthGiven, filled, Wrote}
 
 module _ {A : Type 0} where
+  pub filled-front :
+      (n : ℤ) (result lent : List A) → roomRefusal n (length result) (length lent) ≡ pos 0
+      → (n ≡ pos 0) × (take (lengthGiven n (length result)) (filled n result lent) ≡ result)
+  filled-front n result lent h =
+      let z = or-zero n _ h .0 in
+      let rest = drop (length result) lent in (
+        z,
+        (λ i. take (cond (eq-eqZ z i) (length result) 0) (cond (eq-eqZ h i) (result ++ rest) lent)) ∙ take-append-seam result rest,
+      )
+
   pub sets-two : (vs us d : List A) (at : ℕ) → sets (sets d at vs) (at + length vs) us ≡ sets d at (vs ++ us)
   sets-two [] us d at = ap (λ (k : ℕ). sets d k us) (omega arith)
   sets-two (v ∷ vs) us d at =

@@ -1,1 +1,4 @@
+pub mod ReaderPosts
 pub mod Answers
+pub mod RoundTrip
+pub mod Calling
