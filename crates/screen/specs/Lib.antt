@@ -5,9 +5,11 @@ pub mod Told
 pub mod ToldLaws
 pub mod Places
 pub mod PlacesLaws
-pub mod Shown
 pub mod Lists
 pub mod Extents
 pub mod ListsLaws
 pub mod ExtentsLaws
+pub mod Shown
+pub mod PlaceShown
 pub mod Surrounds
+pub mod BoxShown

@@ -1,42 +1,80 @@
--- What every answer that meets the contract of `place_of` shows of its point, by the answer's cases. To cite:
---   Shown, shown   the values are near their fractions, the side is the one that the point goes to, and 5 is said of no point alone
--- Assumes nothing.
-use mathlib.Core.Path.{_≡_, refl, sym, _∙_, subst}
-use mathlib.Core.Bool.{Bool, true, false, cond}
-use lib.IntN.{pos}
+-- What the paper promises of a place and of a box: `Shown p r` is what r, the place that was given for p, has to do with p, and `BoxShown l r`
+-- what the box r has to do with the list l. Definitions alone; `proofs/Shows` shows them of the calls.
+use mathlib.Core.Path.{_≡_}
+use mathlib.Core.Bool.{true, false}
+use mathlib.Core.List.{List, [], _∷_}
+use Prim.Native.Nat.{ℕ, _<_}
 use lib.Ieee.{Float}
+use lib.IntN.{ℤ, pos}
+use lib.Signed.{_≤ℤ_}
 use Rattle.sheet.specs.declared.Point.{Point}
 use Rattle.sheet.specs.Figure.{Side, sideNumber}
-use Rattle.sheet.specs.Points.{isPoint, pointRefusal}
-use Rattle.sheet.specs.PointsLaws.{Standard, Frame, APoint, a-standard, a-frame, standard-is, point-is}
+use Rattle.sheet.specs.Points.{isPoint, standard}
+use Rattle.sheet.specs.PointsLaws.{Standard, Frame}
+use Rattle.sheet.specs.Ends.{firstEnd, lastEnd}
+use Rattle.sheet.specs.Lists.{countOf, objectAt, listRefusal}
 use Rattle.screen.specs.declared.Place.{Place}
-use Rattle.screen.specs.declared.Place.the-variants.{At, Edge, Refused}
-use Rattle.screen.specs.Quotient.{Near}
-use Rattle.screen.specs.QuotientLaws.{quotient-near}
-use Rattle.screen.specs.Told.{answered}
-use Rattle.screen.specs.Places.{placeSays, goesTo, sideWhere, along, placeOf}
-use Rattle.screen.specs.PlacesLaws.{place-one, side-where, frame-standard, place-standard, place-frame, ratios, along-parts}
+use Rattle.screen.specs.declared.Place.the-variants as place
+use Rattle.screen.specs.declared.Position.{Position}
+use Rattle.screen.specs.declared.Boxed.{Boxed}
+use Rattle.screen.specs.declared.Boxed.the-variants as boxed
+use Rattle.screen.specs.Quotient.{zero+, quotient, Near}
+use Rattle.screen.specs.Places.{goesTo, along}
+
+-- ---- a place
 
 pub data Shown (p : Point) : Place → Type 0 where
-  a-position : {x y : Float} → Standard p → Near (p .nx) (p .w) x → Near (p .ny) (p .w) y → Shown p (At x y)
-  an-edge : {t : Float} (s : Side) → Frame p → goesTo s p ≡ true → Near (along s p) (p .w) t → Shown p (Edge (sideNumber s) t)
-  no-point : isPoint p ≡ false → Shown p (Refused (pos 5))
+  a-position : {x y : Float} → Standard p → Near (p .nx) (p .w) x → Near (p .ny) (p .w) y → Shown p (place.At x y)
+  an-edge : {t : Float} (s : Side) → Frame p → goesTo s p ≡ true → Near (along s p) (p .w) t → Shown p (place.Edge (sideNumber s) t)
+  no-point : isPoint p ≡ false → Shown p (place.Refused (pos 5))
 
-pub shown : (p : Point) (r : Place) → placeSays r ≡ answered (pointRefusal p) (placeOf p) → Shown p r
-unfolding pointRefusal
-shown p r e = go (isPoint p) refl e
-  where
-    is : {q : Place} → Shown p q → placeSays r ≡ placeSays q → Shown p r
-    is {q} h f = subst (Shown p) (sym (place-one r q f)) h
+-- ---- a box
 
-    accepted : APoint p → placeSays r ≡ placeOf p → Shown p r
-    accepted (a-standard s d) e =
-        let n = ratios (a-standard s d) in
-        is (a-position s (quotient-near (n .in-nx)) (quotient-near (n .in-ny))) (e ∙ place-standard p (standard-is p .1 s))
-    accepted (a-frame f d) e =
-        let near = quotient-near (along-parts (sideWhere p) (ratios (a-frame f d))) in
-        is (an-edge (sideWhere p) f (side-where f) near) (e ∙ place-frame p (frame-standard f))
+-- one of some
+pub data Among {A : Type 0} (v : A) : List A → Type 0 where
+  here : {vs : List A} → Among v (v ∷ vs)
+  later : {u : A} {vs : List A} → Among v vs → Among v (u ∷ vs)
 
-    go : (t : Bool) → isPoint p ≡ t → placeSays r ≡ answered (cond t (pos 0) (pos 5)) (placeOf p) → Shown p r
-    go true t e = accepted (point-is p .0 t) e
-    go false t e = is (no-point t) e
+-- "its standard ends": an end of one of the list's objects that is a standard point
+pub record StandardEnd (l : List ℤ) (p : Point) : Type 0 where
+  pub index : ℕ
+  pub below : index < countOf l
+  pub is-end : Among p (firstEnd (objectAt l index) ∷ lastEnd (objectAt l index) ∷ [])
+  pub is-standard : standard p ≡ true
+
+-- z is a coordinate of one of them
+pub record Touched (l : List ℤ) (coordinate : Point → ℤ) (z : ℤ) : Type 0 where
+  pub end : Point
+  pub is-end : StandardEnd l end
+  pub equal : coordinate end ≡ z
+
+-- p is where nx and ny say, and that is within the four
+abbrev pub Inside : ℤ → ℤ → ℤ → ℤ → Point → Type 0
+Inside lx ly hx hy p = (p .w ≡ pos 1) × (lx ≤ℤ p .nx) × (p .nx ≤ℤ hx) × (ly ≤ℤ p .ny) × (p .ny ≤ℤ hy)
+
+-- "lowest and highest x and y over its standard ends"
+pub record Encloses (l : List ℤ) (lx ly hx hy : ℤ) : Type 0 where
+  pub low-x : Touched l (λ p. p .nx) lx
+  pub low-y : Touched l (λ p. p .ny) ly
+  pub high-x : Touched l (λ p. p .nx) hx
+  pub high-y : Touched l (λ p. p .ny) hy
+  pub inside : (p : Point) → StandardEnd l p → Inside lx ly hx hy p
+
+-- x is the float of the coordinate z, as in the place of an end
+pub record Shows (z : ℤ) (x : Float) : Type 0 where
+  pub is : x ≡ quotient z (pos 1)
+  pub near : Near z (pos 1) x
+
+pub record Corner (x y : ℤ) (at : Position) : Type 0 where
+  pub in-x : Shows x (at .x)
+  pub in-y : Shows y (at .y)
+
+abbrev pub nought : Position
+nought = record { x = zero+; y = zero+ }
+
+pub data BoxShown (l : List ℤ) : Boxed → Type 0 where
+  box-refused : {n : ℤ} → n ≡ listRefusal l → (n ≡ pos 0 → ⊥) → BoxShown l (boxed.Refused n)
+  around-none : listRefusal l ≡ pos 0 → ((p : Point) → StandardEnd l p → ⊥)
+      → BoxShown l (boxed.Around (record { low = nought; high = nought; none = true }))
+  around : {lx ly hx hy : ℤ} {low high : Position} → listRefusal l ≡ pos 0 → Encloses l lx ly hx hy → Corner lx ly low → Corner hx hy high
+      → BoxShown l (boxed.Around (record { low = low; high = high; none = false }))

@@ -1,6 +1,5 @@
 -- What the box of the definitions is, in whole numbers. To cite:
 --   standards, givens, ends-standard   the standard ends of an accepted object are those of its two ends that are standard points
---   Among                      a place is one of some
 --   Met, extreme-met           the lowest and the highest of a coordinate is that of one of the places
 --   AtLeast, extreme-all       no place is beyond it
 --   Surrounds, surrounds       so for all four sides of a box
@@ -27,6 +26,7 @@ use Rattle.sheet.specs.EndsLaws.{Way, proper-way, reverse-way, far-frame, given
 use Rattle.screen.specs.declared.Extent.{Extent}
 use Rattle.screen.specs.Quotient.{zero+}
 use Rattle.screen.specs.QuotientLaws.{float-zero}
+use Rattle.screen.specs.Shown.{Among, here, later}
 use Rattle.screen.specs.PlacesLaws.{flat-is, frame-standard}
 use Rattle.screen.specs.Extents.{standardEnds, beyond, farther, part, farthest, extreme, isNone, extentOf}
 
@@ -80,13 +80,8 @@ ends-standard {o} a = go (accepted-taken a)
         is e (two-standards _ _ (far-standard (first o) (reverse d) (reverse-way (first o) d w)) (far-standard (first o) d w))
     go (a-side k s e) = is e (two-standards _ _ (begins-standard (s .which)) (begins-standard (nextSide (s .which))))
 
--- ---- one of the places
+-- ---- a coordinate of one of the places
 
-pub data Among (v : Vec) : List Vec → Type 0 where
-  here : {vs : List Vec} → Among v (v ∷ vs)
-  later : {u : Vec} {vs : List Vec} → Among v vs → Among v (u ∷ vs)
-
--- a coordinate of one of the places
 pub record Met (axis : ℕ) (z : ℤ) (vs : List Vec) : Type 0 where
   pub place : Vec
   pub among : Among place vs

@@ -1,0 +1,34 @@
+-- What every answer that meets the contract of `place_of` shows of its point, by the answer's cases. To cite:
+--   shown   the values are near their fractions, the side is the one that the point goes to, and 5 is said of no point alone
+-- Assumes nothing.
+use mathlib.Core.Path.{_≡_, refl, sym, _∙_, subst}
+use mathlib.Core.Bool.{Bool, true, false, cond}
+use lib.IntN.{pos}
+use Rattle.sheet.specs.declared.Point.{Point}
+use Rattle.sheet.specs.Points.{isPoint, pointRefusal}
+use Rattle.sheet.specs.PointsLaws.{APoint, a-standard, a-frame, standard-is, point-is}
+use Rattle.screen.specs.declared.Place.{Place}
+use Rattle.screen.specs.QuotientLaws.{quotient-near}
+use Rattle.screen.specs.Told.{answered}
+use Rattle.screen.specs.Places.{placeSays, sideWhere, placeOf}
+use Rattle.screen.specs.PlacesLaws.{place-one, side-where, frame-standard, place-standard, place-frame, ratios, along-parts}
+use Rattle.screen.specs.Shown.{Shown, a-position, an-edge, no-point}
+
+pub shown : (p : Point) (r : Place) → placeSays r ≡ answered (pointRefusal p) (placeOf p) → Shown p r
+unfolding pointRefusal
+shown p r e = go (isPoint p) refl e
+  where
+    is : {q : Place} → Shown p q → placeSays r ≡ placeSays q → Shown p r
+    is {q} h f = subst (Shown p) (sym (place-one r q f)) h
+
+    accepted : APoint p → placeSays r ≡ placeOf p → Shown p r
+    accepted (a-standard s d) e =
+        let n = ratios (a-standard s d) in
+        is (a-position s (quotient-near (n .in-nx)) (quotient-near (n .in-ny))) (e ∙ place-standard p (standard-is p .1 s))
+    accepted (a-frame f d) e =
+        let near = quotient-near (along-parts (sideWhere p) (ratios (a-frame f d))) in
+        is (an-edge (sideWhere p) f (side-where f) near) (e ∙ place-frame p (frame-standard f))
+
+    go : (t : Bool) → isPoint p ≡ t → placeSays r ≡ answered (cond t (pos 0) (pos 5)) (placeOf p) → Shown p r
+    go true t e = accepted (point-is p .0 t) e
+    go false t e = is (no-point t) e
