@@ -20,11 +20,23 @@ def run(name, data):
     return done.stdout
 
 
+def written(path):
+    return os.path.getmtime(path) if os.path.exists(path) else 0
+
+
+def newest():
+    """When a file of a crate was last written."""
+    return max(written(os.path.join(folder, name)) for folder, _, names in os.walk('crates') for name in names)
+
+
 def archive(name):
-    """The static library of a crate, and a compiler to link with it."""
-    subprocess.run(['bash', '-euc', f'. tests/need; need {COMPILER} "" gcc-x86-64-linux-gnu'], check=True)
-    subprocess.run(['rt', 'staticlib', name], check=True, stdout=subprocess.DEVNULL, stderr=subprocess.DEVNULL)
-    return f'target/staticlib/lib{name}.a'
+    """The static library of a crate, made where no file of a crate is newer, and a compiler to link with it."""
+    package = 'gcc' if platform.machine() == 'x86_64' else 'gcc-x86-64-linux-gnu'
+    subprocess.run(['bash', '-euc', f'. tests/need; need {COMPILER} "" {package}'], check=True)
+    library = f'target/staticlib/lib{name}.a'
+    if written(library) <= newest():
+        subprocess.run(['rt', 'staticlib', name], check=True, stdout=subprocess.DEVNULL, stderr=subprocess.DEVNULL)
+    return library
 
 
 def driver(name):

@@ -18,7 +18,7 @@ pub struct Object {
     pub qy: i64,
 }
 
-// A point: x is (mx R + nx)/w and y is (my R + ny)/w, where R is larger than any number.
+// A point: x is (mx R + nx)/w and y is (my R + ny)/w, where the frame goes from -R to R; what holds, holds for every large R.
 pub struct Point {
     pub mx: i64,
     pub nx: i64,
