@@ -5,13 +5,13 @@
 // is at x = (mx R + nx)/w, y = (my R + ny)/w. A standard point has mx = my = 0 and stays where it is. A point on the frame has x or y
 // exactly R or -R. There m of the other coordinate tells the direction that led to it, and n tells the ends of parallel lines apart.
 //
-// Why a sign is that of a coefficient. R is larger than any number of a sheet, and the code has no value for it. What is asked of points
-// is the sign of a sum of products of their coordinates, with every w, which is above 0, multiplied out. That is a polynomial in R with
-// whole coefficients: a R + b for the order of two coordinates, a R R + b R + c for the turn of three points. Where R is larger than the
-// size of each lower coefficient, the sign is that of the highest coefficient that is not 0: a is 1 or more in size and b is below R, so b
-// cannot change the sign of a R + b; and a R R + b R + c is (a R + b) R + c, which is the same step again. Where all are 0 the sign is 0.
-// So the code works out the coefficients, which do not depend on R, and looks at them from the highest on (`lead`). A fixed large number
-// for R would not do: with one that is large enough products pass the largest i64, and with a smaller one signs can be wrong.
+// Why a sign is that of a coefficient. R is larger than any number of a sheet, and the code has no value for it. What is asked of points is
+// the sign of a sum of products of their coordinates, with every w, which is above 0, multiplied out. That is a polynomial in R with whole
+// coefficients: a R + b for the order of two coordinates, a R R + b R + c for the turn of three points. Where R is larger than the size of
+// each lower coefficient, the sign is that of the highest coefficient that is not 0: an a that is not 0 is 1 or more in size, so a b of a
+// size below R cannot change the sign of a R + b; and a R R + b R + c is (a R + b) R + c, which is the same step again. Where all are 0 the
+// sign is 0. So the code works out the coefficients, which do not depend on R, and looks at them from the highest on (`lead`). A fixed
+// large number for R would not do: with one that is large enough products pass the largest i64, and with a smaller one signs can be wrong.
 //
 // Why the numbers fit i64. Objects and points have limits, which stand at `Object` and `Point` in crate sheet. Coordinates are within
 // 2,000, and so directions within 4,000. A standard point has w up to 32,000,000 and n within 64,000,000,000: a coefficient of the order of
