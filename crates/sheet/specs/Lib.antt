@@ -22,3 +22,8 @@ pub mod OnLine
 pub mod CrossingLaws
 pub mod ListsLaws
 pub mod LentLaws
+pub mod Cases
+pub mod WorkedObjects
+pub mod WorkedPoints
+pub mod WorkedRefusals
+pub mod WorkedAnswers

@@ -5,7 +5,6 @@ use Prim.Native.Nat.{ℕ}
 use lib.IntN.{ℤ, pos, negsuc}
 use Rattle.whole.specs.Sign.{sgn}
 use Rattle.whole.specs.Divisor.{steps, gcd, gcdOf}
-use Rattle.sheet.specs.declared.Object.{Object}
 use Rattle.sheet.specs.declared.Point.{Point}
 use Rattle.sheet.specs.Figure.{sideOf, figure}
 use Rattle.sheet.specs.Points.{divided}
@@ -14,24 +13,8 @@ use Rattle.sheet.specs.Signs.{order, turnPoly, turn}
 use Rattle.sheet.specs.Crossing as crossing
 use Rattle.sheet.specs.Refusal.{sideRefusal, pairRefusal, objectRefusal}
 use Rattle.sheet.specs.Lists.{firstRefusal, listRefusal}
+use Rattle.sheet.specs.Cases.{line, ray, side, point, at}
 use Rattle.store.specs.Stored.{writeGroups, writeShape, writeObject, writeObjects, writeDrawing, readGroups, readCoordinate, readSide, readPoint, readTo, readPair, readShape, readObject, readObjects, readCount, readDrawing}
-
--- five numbers as a point, and as an object
-abbrev point : ℤ → ℤ → ℤ → ℤ → ℤ → Point
-point mx nx my ny w = record { mx = mx; nx = nx; my = my; ny = ny; w = w }
-
-abbrev line : ℤ → ℤ → ℤ → ℤ → Object
-line px py qx qy = record { kind = pos 3; px = px; py = py; qx = qx; qy = qy }
-
-abbrev ray : ℤ → ℤ → ℤ → ℤ → Object
-ray px py qx qy = record { kind = pos 2; px = px; py = py; qx = qx; qy = qy }
-
-abbrev side : ℤ → Object
-side n = record { kind = pos 4; px = n; py = pos 0; qx = pos 0; qy = pos 0 }
-
--- a given point
-abbrev at : ℤ → ℤ → Point
-at x y = point (pos 0) x (pos 0) y (pos 1)
 
 row-4 : Point
 row-4 = lastEnd (line (pos 0) (pos 1) (pos 2) (pos 2))

@@ -1,0 +1,146 @@
+-- Which refusal comes first, worked out by document 01's order, where two or more would do: of several points and objects, of lists, and
+-- with lent cells. A definition that has another order is refused here, whatever the code does.
+use mathlib.Core.Path.{_≡_, refl}
+use mathlib.Core.List.{List, [], _∷_, _++_}
+use Prim.Native.Nat.{ℕ}
+use lib.IntN.{ℤ, pos}
+use lib.ListN.{replicate}
+use Rattle.whole.specs.Sign.{sgn}
+use Rattle.whole.specs.Divisor.{steps, gcd, gcdOf}
+use Rattle.sheet.specs.declared.Object.{Object}
+use Rattle.sheet.specs.declared.Point.{Point}
+use Rattle.sheet.specs.Figure.{sideOf, figure}
+use Rattle.sheet.specs.Refusal.{pairRefusal, sideRefusal, objectRefusal}
+use Rattle.sheet.specs.Points.{divided, standard, narrow, frame, isPoint, pointRefusal}
+use Rattle.sheet.specs.Ends.{farRaw, farEnd}
+use Rattle.sheet.specs.Signs.{orderRefusal, turnRefusal, sideSignRefusal}
+use Rattle.sheet.specs.Crossing.{none, many, pieces, withSide, withPiece, meeting, crossingOf, limitsRefusal, crossingRefusal}
+use Rattle.sheet.specs.Crossing as crossing
+use Rattle.sheet.specs.Answers.{answer, objectNumbers}
+use Rattle.sheet.specs.Lists.{firstRefusal, listRefusal, indexRefusal}
+use Rattle.sheet.specs.Lent.{roomRefusal, otherNumber, lengthGiven, filled}
+use Rattle.sheet.specs.Cases.{object, segment, ray, side, point, at}
+
+-- ---- what is taken, and what is refused by one number alone
+
+-- narrow; a point, and too wide for a turn; no point
+abbrev good : Point
+good = at (pos 1) (pos 2)
+
+abbrev wide : Point
+wide = point (pos 0) (pos 1) (pos 0) (pos 1) (pos 4001)
+
+abbrev noPoint : Point
+noPoint = point (pos 0) (pos 0) (pos 0) (pos 0) (pos 2)
+
+-- refused by 1, 2, 3 and 4
+abbrev fine : Object
+fine = segment (pos 0) (pos 0) (pos 1) (pos 1)
+
+abbrev noKind : Object
+noKind = object (pos 5) (pos 0) (pos 0) (pos 1) (pos 1)
+
+abbrev tooFar : Object
+tooFar = segment (pos 0) (pos 0) (pos 2001) (pos 1)
+
+abbrev onePlace : Object
+onePlace = ray (pos 7) (pos 8) (pos 7) (pos 8)
+
+abbrev noSide : Object
+noSide = side (pos 5)
+
+-- two objects as a list; and so many zeros, of which five are an object of kind 0
+abbrev both : Object → Object → List ℤ
+both a b = objectNumbers a ++ objectNumbers b
+
+abbrev zeros : ℕ → List ℤ
+zeros n = replicate n (pos 0)
+
+pub record WorkedRefusals : Type 0 where
+  -- "Points: 5 for each in turn, then 6."
+  points-taken : turnRefusal good good good ≡ pos 0
+  no-point-of-two : (orderRefusal noPoint good ≡ pos 5) × (orderRefusal good noPoint ≡ pos 5) × (orderRefusal good good ≡ pos 0)
+  no-point-of-three :
+      (turnRefusal noPoint good good ≡ pos 5) × (turnRefusal good noPoint good ≡ pos 5) × (turnRefusal good good noPoint ≡ pos 5)
+  wide-of-three : (turnRefusal wide good good ≡ pos 6) × (turnRefusal good wide good ≡ pos 6) × (turnRefusal good good wide ≡ pos 6)
+  five-before-six :
+      (turnRefusal wide good noPoint ≡ pos 5) × (turnRefusal wide noPoint good ≡ pos 5) × (turnRefusal good wide noPoint ≡ pos 5)
+      × (turnRefusal noPoint wide wide ≡ pos 5)
+  -- "Any point is taken, wide ones too", by order and side
+  wide-taken : (orderRefusal wide wide ≡ pos 0) × (sideSignRefusal fine wide ≡ pos 0)
+  -- "An object with a point: the object's, then 5."
+  object-before-point :
+      (sideSignRefusal noKind noPoint ≡ pos 1) × (sideSignRefusal tooFar noPoint ≡ pos 2) × (sideSignRefusal onePlace noPoint ≡ pos 3)
+      × (sideSignRefusal noSide noPoint ≡ pos 4)
+  then-the-point : sideSignRefusal fine noPoint ≡ pos 5
+  -- "Two objects: the first one's, then the second's, then 12."
+  first-before-second :
+      (crossingRefusal noKind tooFar ≡ pos 1) × (crossingRefusal tooFar noKind ≡ pos 2) × (crossingRefusal onePlace noSide ≡ pos 3)
+      × (crossingRefusal noSide onePlace ≡ pos 4)
+  then-the-second : (crossingRefusal fine noSide ≡ pos 4) × (crossingRefusal noSide fine ≡ pos 4) × (crossingRefusal fine fine ≡ pos 0)
+  -- "12: a crossing's reduced numbers are outside the limits for points"
+  outside-the-limits :
+      (limitsRefusal (crossing.point noPoint) ≡ pos 12) × (limitsRefusal (crossing.point wide) ≡ pos 0) × (limitsRefusal none ≡ pos 0)
+      × (limitsRefusal many ≡ pos 0)
+  -- "14: list length not a multiple of five". "11: more than 512 objects": 2,565 numbers are 513 objects, 2,560 are 512
+  list-taken : (listRefusal [] ≡ pos 0) × (listRefusal (both fine fine) ≡ pos 0)
+  no-multiple-of-five : (listRefusal (zeros 1) ≡ pos 14) × (listRefusal (objectNumbers fine ++ zeros 4) ≡ pos 14)
+  too-many : listRefusal (zeros 2565) ≡ pos 11
+  not-too-many : listRefusal (zeros 2560) ≡ pos 1
+  -- "A list: 14, 11, each object in turn, 12, then 10."
+  fourteen-before-eleven : (listRefusal (zeros 2566) ≡ pos 14) × (listRefusal (zeros 2569) ≡ pos 14)
+  fourteen-before-objects : listRefusal (objectNumbers tooFar ++ zeros 1) ≡ pos 14
+  eleven-before-objects : listRefusal (objectNumbers tooFar ++ zeros 2560) ≡ pos 11
+  each-in-turn :
+      (listRefusal (both noKind tooFar) ≡ pos 1) × (listRefusal (both tooFar noKind) ≡ pos 2) × (listRefusal (both onePlace noSide) ≡ pos 3)
+      × (listRefusal (both noSide onePlace) ≡ pos 4)
+  the-second-alone : (listRefusal (both fine tooFar) ≡ pos 2) × (listRefusal (both tooFar fine) ≡ pos 2)
+  -- "13: object index below 0 or not below the count"
+  index-of-two : (indexRefusal (both fine fine) 1 ≡ pos 0) × (indexRefusal (both fine fine) 2 ≡ pos 13) × (indexRefusal [] 0 ≡ pos 13)
+  -- ".. then 10": "the lent list or byte buffer is too short for the result"
+  room : (roomRefusal (pos 0) 5 5 ≡ pos 0) × (roomRefusal (pos 0) 5 4 ≡ pos 10) × (roomRefusal (pos 0) 0 0 ≡ pos 0)
+  room-last : (roomRefusal (pos 14) 5 4 ≡ pos 14) × (roomRefusal (pos 1) 5 4 ≡ pos 1) × (roomRefusal (pos 9) 5 5 ≡ pos 9)
+  -- "A refused call returns its number with every other number 0"; "Refusal 10 alone also returns the length needed."
+  refused-alone : (answer (pos 3) (pos 7 ∷ pos 8 ∷ []) ≡ pos 3 ∷ []) × (answer (pos 0) (pos 7 ∷ pos 8 ∷ []) ≡ pos 0 ∷ pos 7 ∷ pos 8 ∷ [])
+  others-zero : (otherNumber (pos 10) 6 ≡ 0) × (otherNumber (pos 14) 6 ≡ 0) × (otherNumber (pos 0) 6 ≡ 6)
+  length-needed : (lengthGiven (pos 0) 6 ≡ 6) × (lengthGiven (pos 9) 6 ≡ 0) × (lengthGiven (pos 1) 6 ≡ 0)
+  -- ".. and changes no lent buffer. An accepted one fills from the front and leaves the rest unchanged."
+  from-the-front : filled {A = ℕ} (pos 0) (1 ∷ 2 ∷ []) (7 ∷ 8 ∷ 9 ∷ []) ≡ 1 ∷ 2 ∷ 9 ∷ []
+  just-room : filled {A = ℕ} (pos 0) (1 ∷ 2 ∷ []) (7 ∷ 8 ∷ []) ≡ 1 ∷ 2 ∷ []
+  too-short : filled {A = ℕ} (pos 0) (1 ∷ 2 ∷ []) (7 ∷ []) ≡ 7 ∷ []
+  unchanged : filled {A = ℕ} (pos 3) (1 ∷ []) (7 ∷ 8 ∷ []) ≡ 7 ∷ 8 ∷ []
+
+pub worked-refusals : WorkedRefusals
+unfolding sgn steps gcd gcdOf sideOf figure pairRefusal sideRefusal objectRefusal divided standard narrow frame isPoint pointRefusal farRaw farEnd orderRefusal turnRefusal sideSignRefusal pieces withSide withPiece meeting crossingOf crossingRefusal firstRefusal listRefusal
+worked-refusals = record {
+  points-taken = refl;
+  no-point-of-two = (refl, refl, refl);
+  no-point-of-three = (refl, refl, refl);
+  wide-of-three = (refl, refl, refl);
+  five-before-six = (refl, refl, refl, refl);
+  wide-taken = (refl, refl);
+  object-before-point = (refl, refl, refl, refl);
+  then-the-point = refl;
+  first-before-second = (refl, refl, refl, refl);
+  then-the-second = (refl, refl, refl);
+  outside-the-limits = (refl, refl, refl, refl);
+  list-taken = (refl, refl);
+  no-multiple-of-five = (refl, refl);
+  too-many = refl;
+  not-too-many = refl;
+  fourteen-before-eleven = (refl, refl);
+  fourteen-before-objects = refl;
+  eleven-before-objects = refl;
+  each-in-turn = (refl, refl, refl, refl);
+  the-second-alone = (refl, refl);
+  index-of-two = (refl, refl, refl);
+  room = (refl, refl, refl);
+  room-last = (refl, refl, refl);
+  refused-alone = (refl, refl);
+  others-zero = (refl, refl, refl);
+  length-needed = (refl, refl, refl);
+  from-the-front = refl;
+  just-room = refl;
+  too-short = refl;
+  unchanged = refl;
+}
