@@ -18,3 +18,5 @@ pub mod LongestLaws
 pub mod StepLaws
 pub mod ReaderLaws
 pub mod Rows
+pub mod WorkedStored
+pub mod WorkedReader

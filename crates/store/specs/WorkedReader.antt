@@ -1,0 +1,61 @@
+-- Calls of the reader, one after another, worked out by document 01's words. A definition that says something else is refused here, whatever
+-- the code does.
+use mathlib.Core.Path.{_≡_, refl}
+use mathlib.Core.Bool.{true}
+use mathlib.Core.List.{List, [], _∷_, map}
+use Prim.Native.Nat.{ℕ}
+use lib.IntN.{pos}
+use Rattle.sheet.specs.Cases.{side}
+use Rattle.store.specs.declared.Place.{Place}
+use Rattle.store.specs.declared.Item.{Item}
+use Rattle.store.specs.declared.Item.the-variants.{One, End, Refused}
+use Rattle.store.specs.Stored.{readGroups, readCoordinate, readSide, readPoint, readTo, readPair, readShape, readObject, readCount}
+use Rattle.store.specs.Reader.{startPlace, stepFrom, stepOf, callFrom, itemSays}
+
+-- what the first four calls give
+abbrev fourCalls : List ℕ → List Item
+fourCalls bytes = map (callFrom bytes startPlace) (0 ∷ 1 ∷ 2 ∷ 3 ∷ [])
+
+-- sides 1 and 2; where the reader is after both
+abbrev twoSides : List ℕ
+twoSides = 2 ∷ 4 ∷ 1 ∷ 4 ∷ 2 ∷ []
+
+abbrev afterBoth : Place
+afterBoth = record { begun = true; left = 0; at = 5 }
+
+pub record WorkedReader : Type 0 where
+  -- "gives one object per call. Opening it never refuses; its first call also reads the count. After the last it says end"
+  one-a-call : fourCalls twoSides ≡ One (side (pos 1)) ∷ One (side (pos 2)) ∷ End ∷ End ∷ []
+  none-at-all : fourCalls (0 ∷ []) ≡ End ∷ End ∷ End ∷ End ∷ []
+  -- ".. or 9 if bytes remain"
+  bytes-remain :
+      fourCalls (2 ∷ 4 ∷ 1 ∷ 4 ∷ 2 ∷ 0 ∷ []) ≡ One (side (pos 1)) ∷ One (side (pos 2)) ∷ Refused (pos 9) ∷ Refused (pos 9) ∷ []
+  bytes-after-none : fourCalls (0 ∷ 7 ∷ []) ≡ Refused (pos 9) ∷ Refused (pos 9) ∷ Refused (pos 9) ∷ Refused (pos 9) ∷ []
+  -- "end and refusal keep its place, so the next call says the same"
+  refused-again :
+      fourCalls (3 ∷ 4 ∷ 1 ∷ 4 ∷ 5 ∷ 4 ∷ 2 ∷ []) ≡ One (side (pos 1)) ∷ Refused (pos 4) ∷ Refused (pos 4) ∷ Refused (pos 4) ∷ []
+  no-count : fourCalls [] ≡ Refused (pos 7) ∷ Refused (pos 7) ∷ Refused (pos 7) ∷ Refused (pos 7) ∷ []
+  too-large-a-count : fourCalls (129 ∷ 4 ∷ []) ≡ Refused (pos 11) ∷ Refused (pos 11) ∷ Refused (pos 11) ∷ Refused (pos 11) ∷ []
+  places :
+      (stepOf twoSides startPlace .place ≡ record { begun = true; left = 1; at = 3 })
+      × (stepOf twoSides (record { begun = true; left = 1; at = 3 }) .place ≡ afterBoth) × (stepOf twoSides afterBoth .place ≡ afterBoth)
+  place-kept : (stepOf [] startPlace .place ≡ startPlace) × (stepOf (0 ∷ []) startPlace .place ≡ startPlace)
+  -- an object is told by 0 and its numbers, a refusal by its own alone
+  said :
+      (itemSays (One (side (pos 3))) ≡ pos 0 ∷ pos 4 ∷ pos 3 ∷ pos 0 ∷ pos 0 ∷ pos 0 ∷ []) × (itemSays End ≡ [])
+      × (itemSays (Refused (pos 9)) ≡ pos 9 ∷ [])
+
+pub worked-reader : WorkedReader
+unfolding readGroups readCoordinate readSide readPoint readTo readPair readShape readObject readCount stepFrom stepOf callFrom
+worked-reader = record {
+  one-a-call = refl;
+  none-at-all = refl;
+  bytes-remain = refl;
+  bytes-after-none = refl;
+  refused-again = refl;
+  no-count = refl;
+  too-large-a-count = refl;
+  places = (refl, refl, refl);
+  place-kept = (refl, refl);
+  said = (refl, refl, refl);
+}

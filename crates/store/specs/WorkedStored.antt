@@ -1,0 +1,126 @@
+-- Stored numbers, objects and drawings, worked out byte by byte by document 01's rules, with the refusal first met where two or more would
+-- do. A definition that says something else is refused here, whatever the code does.
+use mathlib.Core.Path.{_≡_, refl}
+use mathlib.Core.List.{List, [], _∷_, _++_, map}
+use Prim.Native.Nat.{ℕ}
+use lib.IntN.{ℤ, pos}
+use lib.ListN.{replicate}
+use Rattle.sheet.specs.Answers.{objectNumbers}
+use Rattle.sheet.specs.Refusal.{sideRefusal, pairRefusal, objectRefusal}
+use Rattle.sheet.specs.Lists.{firstRefusal, listRefusal}
+use Rattle.sheet.specs.Cases.{minus, object, segment, ray, side}
+use Rattle.store.specs.Stored.{got, zigzag, unzigzag, writeNumber, writeGroups, writeShape, writeObject, writeObjects, writeDrawing, readNumber, readGroups, readCoordinate, readSide, readPoint, readTo, readPair, readShape, readObject, readObjects, readCount, readDrawing}
+use Rattle.store.specs.Answers.{readAnswer, readInto, writeAnswer, writeInto}
+
+-- the refusal of some bytes, and that of one object's bytes
+abbrev refusal : List ℕ → ℤ
+refusal bytes = readDrawing bytes .refusal
+
+abbrev ofOne : List ℕ → ℤ
+ofOne bytes = refusal (1 ∷ bytes)
+
+-- lent cells
+abbrev lent : ℕ → List ℤ
+lent n = replicate n (pos 77)
+
+abbrev lentBytes : ℕ → List ℕ
+lentBytes n = replicate n 170
+
+-- sides 1 and 2, as bytes and as numbers
+abbrev twoSides : List ℕ
+twoSides = 2 ∷ 4 ∷ 1 ∷ 4 ∷ 2 ∷ []
+
+abbrev theirNumbers : List ℤ
+theirNumbers = pos 4 ∷ pos 1 ∷ pos 0 ∷ pos 0 ∷ pos 0 ∷ pos 4 ∷ pos 2 ∷ pos 0 ∷ pos 0 ∷ pos 0 ∷ []
+
+pub record WorkedStored : Type 0 where
+  -- "Every number is in groups of seven bits, low group first, the top bit set in every byte but the number's last, in the fewest groups"
+  one-group : (writeNumber 0 ≡ 0 ∷ []) × (writeNumber 127 ≡ 127 ∷ [])
+  two-groups : (writeNumber 128 ≡ 128 ∷ 1 ∷ []) × (writeNumber 300 ≡ 172 ∷ 2 ∷ []) × (writeNumber 16383 ≡ 255 ∷ 127 ∷ [])
+  groups-read :
+      (readNumber (127 ∷ 5 ∷ []) ≡ got 127 (5 ∷ [])) × (readNumber (128 ∷ 1 ∷ 5 ∷ []) ≡ got 128 (5 ∷ []))
+      × (readNumber (172 ∷ 2 ∷ []) ≡ got 300 []) × (readNumber (255 ∷ 127 ∷ []) ≡ got 16383 [])
+  -- "n of 0 or more is stored as 2n and a negative n as -2n - 1"
+  folded : map zigzag (pos 0 ∷ minus 1 ∷ pos 1 ∷ minus 2 ∷ pos 2 ∷ minus 2000 ∷ pos 2000 ∷ []) ≡ 0 ∷ 1 ∷ 2 ∷ 3 ∷ 4 ∷ 3999 ∷ 4000 ∷ []
+  unfolded :
+      map unzigzag (0 ∷ 1 ∷ 2 ∷ 3 ∷ 4 ∷ 3999 ∷ 4000 ∷ 4001 ∷ 4002 ∷ [])
+      ≡ pos 0 ∷ minus 1 ∷ pos 1 ∷ minus 2 ∷ pos 2 ∷ minus 2000 ∷ pos 2000 ∷ minus 2001 ∷ pos 2001 ∷ []
+  -- "First the count. Then each object: kind; for kinds 1 to 3 px, py, qx, qy ..; for kind 4 the plain side number."
+  object-bytes :
+      (writeObject (segment (pos 1) (minus 2) (pos 3) (pos 100)) ≡ 1 ∷ 2 ∷ 3 ∷ 6 ∷ 200 ∷ 1 ∷ [])
+      × (writeObject (ray (pos 0) (pos 0) (minus 1) (pos 1)) ≡ 2 ∷ 0 ∷ 0 ∷ 1 ∷ 2 ∷ []) × (writeObject (side (pos 3)) ≡ 4 ∷ 3 ∷ [])
+  object-read :
+      readObject (1 ∷ 2 ∷ 3 ∷ 6 ∷ 200 ∷ 1 ∷ 9 ∷ []) ≡ got (segment (pos 1) (minus 2) (pos 3) (pos 100)) (9 ∷ [])
+  count-first : (writeDrawing theirNumbers ≡ twoSides) × (readDrawing twoSides ≡ record { objects = theirNumbers; refusal = pos 0 })
+  -- "7: stored bytes end where a number must begin or go on"
+  bytes-end : (refusal [] ≡ pos 7) × (refusal (128 ∷ []) ≡ pos 7) × (ofOne [] ≡ pos 7) × (ofOne (4 ∷ []) ≡ pos 7) × (ofOne (1 ∷ 0 ∷ 0 ∷ 0 ∷ []) ≡ pos 7)
+  -- "8: a stored number's second byte has its top bit set (at once, before any 7), or its second group is 0"
+  third-group : (refusal (128 ∷ 128 ∷ []) ≡ pos 8) × (refusal (129 ∷ 129 ∷ 1 ∷ []) ≡ pos 8) × (ofOne (4 ∷ 129 ∷ 255 ∷ []) ≡ pos 8)
+  second-group-0 : (refusal (128 ∷ 0 ∷ []) ≡ pos 8) × (refusal (130 ∷ 0 ∷ 4 ∷ []) ≡ pos 8) × (ofOne (4 ∷ 129 ∷ 0 ∷ []) ≡ pos 8)
+  -- "11: more than 512 objects", as soon as the count is read
+  count-at-the-limit : (refusal (128 ∷ 4 ∷ []) ≡ pos 7) × (refusal (129 ∷ 4 ∷ []) ≡ pos 11) × (refusal (129 ∷ 4 ∷ 128 ∷ 128 ∷ []) ≡ pos 11)
+  none-stored : readDrawing (0 ∷ []) ≡ record { objects = []; refusal = pos 0 }
+  -- "Each number is read whole, then checked, before the next": 1, 2 and 4 before 7 and before what comes later
+  kind-checked : (ofOne (0 ∷ []) ≡ pos 1) × (ofOne (5 ∷ []) ≡ pos 1) × (ofOne (129 ∷ 1 ∷ []) ≡ pos 1) × (ofOne (129 ∷ 0 ∷ []) ≡ pos 8)
+  coordinate-checked :
+      (ofOne (1 ∷ 161 ∷ 31 ∷ []) ≡ pos 2) × (ofOne (2 ∷ 0 ∷ 162 ∷ 31 ∷ []) ≡ pos 2) × (ofOne (3 ∷ 0 ∷ 0 ∷ 161 ∷ 31 ∷ []) ≡ pos 2)
+      × (ofOne (1 ∷ 0 ∷ 0 ∷ 0 ∷ 161 ∷ 31 ∷ []) ≡ pos 2)
+  coordinate-at-the-limit : (ofOne (1 ∷ 160 ∷ 31 ∷ 159 ∷ 31 ∷ 159 ∷ 31 ∷ 160 ∷ 31 ∷ []) ≡ pos 0) × (ofOne (1 ∷ 160 ∷ 31 ∷ []) ≡ pos 7)
+  side-checked : (ofOne (4 ∷ 0 ∷ []) ≡ pos 4) × (ofOne (4 ∷ 5 ∷ []) ≡ pos 4) × (ofOne (4 ∷ 1 ∷ []) ≡ pos 0) × (ofOne (4 ∷ 4 ∷ []) ≡ pos 0)
+  -- "p against q comes after qy": after a 7, an 8 and a 2 of qy, and before the next object
+  three-after-qy :
+      (ofOne (1 ∷ 3 ∷ 3 ∷ 3 ∷ []) ≡ pos 7) × (ofOne (1 ∷ 3 ∷ 3 ∷ 3 ∷ 131 ∷ 0 ∷ []) ≡ pos 8) × (ofOne (1 ∷ 3 ∷ 3 ∷ 3 ∷ 161 ∷ 31 ∷ []) ≡ pos 2)
+      × (refusal (2 ∷ 1 ∷ 3 ∷ 3 ∷ 3 ∷ 3 ∷ 5 ∷ []) ≡ pos 3)
+  object-by-object : (refusal (2 ∷ 4 ∷ 5 ∷ 9 ∷ []) ≡ pos 4) × (refusal (2 ∷ 9 ∷ 4 ∷ 5 ∷ []) ≡ pos 1) × (refusal (2 ∷ 4 ∷ 1 ∷ 9 ∷ []) ≡ pos 1)
+  -- "9: bytes after the last object": "with 9 after the last object"
+  bytes-after : (refusal (0 ∷ 0 ∷ []) ≡ pos 9) × (refusal (twoSides ++ (128 ∷ [])) ≡ pos 9)
+  nine-after-the-last : (refusal (1 ∷ 4 ∷ 5 ∷ 0 ∷ []) ≡ pos 4) × (refusal (1 ∷ 3 ∷ 1 ∷ 1 ∷ 1 ∷ 1 ∷ 0 ∷ []) ≡ pos 3)
+  -- ".. then 10." The number, the count, and the length, which 10 alone gives too
+  read-taken : readAnswer (readDrawing twoSides) (lent 10) ≡ record { refusal = pos 0; count = 2; length = 10 }
+  read-no-room : readAnswer (readDrawing twoSides) (lent 9) ≡ record { refusal = pos 10; count = 0; length = 10 }
+  nine-before-ten : readAnswer (readDrawing (twoSides ++ (0 ∷ []))) (lent 9) ≡ record { refusal = pos 9; count = 0; length = 0 }
+  read-cells :
+      (readInto (readDrawing twoSides) (lent 12) ≡ theirNumbers ++ lent 2) × (readInto (readDrawing twoSides) (lent 9) ≡ lent 9)
+      × (readInto (readDrawing (twoSides ++ (0 ∷ []))) (lent 12) ≡ lent 12)
+  written-taken : writeAnswer theirNumbers (lentBytes 5) ≡ record { refusal = pos 0; length = 5 }
+  written-no-room : writeAnswer theirNumbers (lentBytes 4) ≡ record { refusal = pos 10; length = 5 }
+  list-before-ten :
+      (writeAnswer (theirNumbers ++ lent 1) (lentBytes 0) ≡ record { refusal = pos 14; length = 0 })
+      × (writeAnswer (objectNumbers (object (pos 9) (pos 0) (pos 0) (pos 0) (pos 0))) (lentBytes 0) ≡ record { refusal = pos 1; length = 0 })
+  written-bytes :
+      (writeInto theirNumbers (lentBytes 7) ≡ twoSides ++ lentBytes 2) × (writeInto theirNumbers (lentBytes 4) ≡ lentBytes 4)
+      × (writeInto (theirNumbers ++ lent 1) (lentBytes 7) ≡ lentBytes 7)
+
+pub worked-stored : WorkedStored
+unfolding sideRefusal pairRefusal objectRefusal firstRefusal listRefusal writeGroups writeShape writeObject writeObjects writeDrawing readGroups readCoordinate readSide readPoint readTo readPair readShape readObject readObjects readCount readDrawing readAnswer readInto writeAnswer writeInto
+worked-stored = record {
+  one-group = (refl, refl);
+  two-groups = (refl, refl, refl);
+  groups-read = (refl, refl, refl, refl);
+  folded = refl;
+  unfolded = refl;
+  object-bytes = (refl, refl, refl);
+  object-read = refl;
+  count-first = (refl, refl);
+  bytes-end = (refl, refl, refl, refl, refl);
+  third-group = (refl, refl, refl);
+  second-group-0 = (refl, refl, refl);
+  count-at-the-limit = (refl, refl, refl);
+  none-stored = refl;
+  kind-checked = (refl, refl, refl, refl);
+  coordinate-checked = (refl, refl, refl, refl);
+  coordinate-at-the-limit = (refl, refl);
+  side-checked = (refl, refl, refl, refl);
+  three-after-qy = (refl, refl, refl, refl);
+  object-by-object = (refl, refl, refl);
+  bytes-after = (refl, refl);
+  nine-after-the-last = (refl, refl);
+  read-taken = refl;
+  read-no-room = refl;
+  nine-before-ten = refl;
+  read-cells = (refl, refl, refl);
+  written-taken = refl;
+  written-no-room = refl;
+  list-before-ten = (refl, refl);
+  written-bytes = (refl, refl, refl);
+}
