@@ -1,7 +1,10 @@
--- Document 01's example of a listing: a line from (0,0) toward (2,1), a segment from (0,2) to (2,0) and side 3.
+-- Listings, worked out by document 01's words: its own example, the eight numbers of every kind of row, their order, and what is answered
+-- where a call is refused. A definition that says something else is refused here, whatever the code does.
 use mathlib.Core.Path.{_≡_, refl}
-use mathlib.Core.List.{List, [], _∷_}
+use mathlib.Core.List.{List, [], _∷_, _++_}
+use Prim.Native.Nat.{ℕ}
 use lib.IntN.{ℤ, pos}
+use lib.ListN.{replicate}
 use Rattle.whole.specs.Sign.{sgn}
 use Rattle.whole.specs.Divisor.{steps, gcd, gcdOf}
 use Rattle.sheet.specs.Figure.{sideOf, figure}
@@ -9,11 +12,15 @@ use Rattle.sheet.specs.Refusal.{pairRefusal, sideRefusal, objectRefusal}
 use Rattle.sheet.specs.Points.{divided, narrow, standard, frame, isPoint}
 use Rattle.sheet.specs.Ends.{farRaw, farEnd}
 use Rattle.sheet.specs.Crossing.{pieces, withSide, withPiece, meeting, crossingOf}
-use Rattle.listing.specs.InTurn.{inTurn}
+use Rattle.sheet.specs.Answers.{objectNumbers}
+use Rattle.sheet.specs.Lent.{filled}
 use Rattle.sheet.specs.Lists.{firstRefusal, listRefusal}
-use Rattle.listing.specs.Rows.{meetingOf, rowsOf, sharing}
-use Rattle.listing.specs.Listing.{allRefusal}
+use Rattle.sheet.specs.Cases.{minus, object, segment, ray, line, side}
+use Rattle.listing.specs.InTurn.{inTurn}
+use Rattle.listing.specs.Rows.{meetingOf, rowsWith, rowsOf, sharingWith, sharing}
+use Rattle.listing.specs.Listing.{allRefusal, oneRefusal, listed}
 
+-- a line from (0,0) toward (2,1), a segment from (0,2) to (2,0) and side 3
 abbrev objects : List ℤ
 objects =
     pos 3 ∷ pos 0 ∷ pos 0 ∷ pos 2 ∷ pos 1
@@ -36,4 +43,73 @@ worked-listing = record {
   not-refused = refl;
   two-rows = refl;
   two-pairs = refl;
+}
+
+-- ---- rows and answers
+
+-- segments along one line, from (0,0) to (4,0) and back from (6,0) to (2,0), and a ray from (3,0) upward: every two share something
+abbrev three : List ℤ
+three =
+    objectNumbers (segment (pos 0) (pos 0) (pos 4) (pos 0)) ++ objectNumbers (segment (pos 6) (pos 0) (pos 2) (pos 0))
+    ++ objectNumbers (ray (pos 3) (pos 0) (pos 3) (pos 1))
+
+-- "i, j, 1 for point or 2 for many, and the five numbers (0 for many)"
+abbrev manyRow : List ℤ
+manyRow = pos 0 ∷ pos 1 ∷ pos 2 ∷ pos 0 ∷ pos 0 ∷ pos 0 ∷ pos 0 ∷ pos 0 ∷ []
+
+abbrev pointRow : ℤ → ℤ → List ℤ
+pointRow i j = i ∷ j ∷ pos 1 ∷ pos 0 ∷ pos 3 ∷ pos 0 ∷ pos 0 ∷ pos 1 ∷ []
+
+-- kind 5; and 2,001
+abbrev noKind : List ℤ
+noKind = objectNumbers (object (pos 5) (pos 0) (pos 0) (pos 1) (pos 1))
+
+abbrev tooFar : List ℤ
+tooFar = objectNumbers (line (pos 0) (minus 2001) (pos 0) (pos 0))
+
+abbrev lent : ℕ → List ℤ
+lent n = replicate n (pos 77)
+
+pub record WorkedListed : Type 0 where
+  -- "All pairs i < j, by i and then j, that share something."
+  by-i-and-then-j : rowsOf three ≡ manyRow ++ pointRow (pos 0) (pos 2) ++ pointRow (pos 1) (pos 2)
+  many-row : rowsWith (objectNumbers (side (pos 4)) ++ objectNumbers (side (pos 4))) 0 ≡ manyRow
+  nothing-shared : (rowsOf (objectNumbers (side (pos 1)) ++ objectNumbers (side (pos 3))) ≡ []) × (rowsOf [] ≡ [])
+  -- one object with all later ones
+  rows-of-one : (rowsWith three 0 ≡ manyRow ++ pointRow (pos 0) (pos 2)) × (rowsWith three 1 ≡ pointRow (pos 1) (pos 2)) × (rowsWith three 2 ≡ [])
+  pairs : (sharing three ≡ 3) × (sharingWith three 0 ≡ 2) × (sharingWith three 1 ≡ 1) × (sharingWith three 2 ≡ 0)
+  -- "A list: 14, 11, each object in turn, 12, then 10."
+  in-turn : (allRefusal (noKind ++ tooFar) ≡ pos 1) × (allRefusal (tooFar ++ noKind) ≡ pos 2)
+  eleven-before-objects : allRefusal (tooFar ++ lent 2560) ≡ pos 11
+  fourteen-before-eleven : allRefusal (tooFar ++ lent 2561) ≡ pos 14
+  -- of one object: the list's own, then 13
+  index : (oneRefusal three 2 ≡ pos 0) × (oneRefusal three 3 ≡ pos 13) × (oneRefusal (noKind ++ tooFar) 9 ≡ pos 1)
+  -- the number, how many rows, and the length: "A refused call returns its number with every other number 0 .. Refusal 10 alone also
+  -- returns the length needed."
+  room-for-all : listed (pos 0) 2 16 ≡ record { refusal = pos 0; rows = 2; length = 16 }
+  no-room : listed (pos 0) 2 15 ≡ record { refusal = pos 10; rows = 0; length = 16 }
+  own-before-ten : (listed (pos 14) 2 15 ≡ record { refusal = pos 14; rows = 0; length = 0 }) × (listed (pos 1) 2 99 ≡ record { refusal = pos 1; rows = 0; length = 0 })
+  no-rows : listed (pos 0) 0 0 ≡ record { refusal = pos 0; rows = 0; length = 0 }
+  -- "Rows stand at the front of the lent list."
+  at-the-front : filled (allRefusal three) (rowsOf three) (lent 26) ≡ rowsOf three ++ lent 2
+  unchanged : (filled (allRefusal three) (rowsOf three) (lent 23) ≡ lent 23) × (filled (allRefusal tooFar) (rowsOf tooFar) (lent 26) ≡ lent 26)
+
+pub worked-listed : WorkedListed
+unfolding inTurn firstRefusal listRefusal meetingOf pairRefusal sideRefusal objectRefusal pieces withSide withPiece meeting crossingOf sgn steps gcd gcdOf sideOf figure divided farRaw farEnd narrow standard frame isPoint
+worked-listed = record {
+  by-i-and-then-j = refl;
+  many-row = refl;
+  nothing-shared = (refl, refl);
+  rows-of-one = (refl, refl, refl);
+  pairs = (refl, refl, refl, refl);
+  in-turn = (refl, refl);
+  eleven-before-objects = refl;
+  fourteen-before-eleven = refl;
+  index = (refl, refl, refl);
+  room-for-all = refl;
+  no-room = refl;
+  own-before-ten = (refl, refl);
+  no-rows = refl;
+  at-the-front = refl;
+  unchanged = (refl, refl);
 }
