@@ -3,3 +3,4 @@ pub mod Answered
 pub mod ReadingLaws
 pub mod CallsLaws
 pub mod AnsweredLaws
+pub mod Worked
