@@ -4,12 +4,60 @@ from fractions import Fraction
 from math import gcd
 
 REACH, MOST = 2000, 512
+WIDTH = 5                                       # numbers of an object in a list
+WIDEST, FAR = 32_000_000, 64_000_000_000        # w and n of a standard point
+NARROW, NEAR = 4_000, 8_000_000                 # w and n of a frame point
 FRAMES = (2 * 10**18, 3 * 10**18 + 7)
 
 
 class Refused(Exception):
     def __init__(self, number):
         self.number = number
+
+
+# ---- which numbers are refused: each number of the table that would do, in the order in which the paper gives them
+
+def object_refusals(kind, px, py, qx, qy):
+    """One object: 1, then 4 for kind 4; else 2, then 3."""
+    if not 1 <= kind <= 4:
+        yield 1
+    if kind == 4:
+        if not 1 <= px <= 4 or (py, qx, qy) != (0, 0, 0):
+            yield 4
+        return
+    if any(abs(coordinate) > REACH for coordinate in (px, py, qx, qy)):
+        yield 2
+    if (px, py) == (qx, qy):
+        yield 3
+
+
+def objects_in(numbers):
+    """The objects of a list; numbers at the end that are too few for one are left."""
+    return [tuple(numbers[at:at + WIDTH]) for at in range(0, len(numbers) - WIDTH + 1, WIDTH)]
+
+
+def list_refusals(numbers):
+    """A list: 14, 11, each object in turn."""
+    if len(numbers) % WIDTH != 0:
+        yield 14
+    if len(numbers) // WIDTH > MOST:
+        yield 11
+    for one in objects_in(numbers):
+        yield from object_refusals(*one)
+
+
+def point_refusals(mx, nx, my, ny, w):
+    """5 where the numbers are no point. Of a frame point the farther coordinate is just on the square."""
+    R, largest = FRAMES[0], max(abs(nx), abs(ny))
+    standard = mx == my == 0 and 0 < w <= WIDEST and largest <= FAR
+    frame = 0 < w <= NARROW and largest <= NEAR and max(abs(mx * R + nx), abs(my * R + ny)) == R * w
+    if not (standard or frame) or gcd(mx, nx, my, ny, w) != 1:
+        yield 5
+
+
+def refusal(refusals):
+    """The first of them, or 0."""
+    return next(refusals, 0)
 
 
 # ---- stored drawings
@@ -154,6 +202,11 @@ def rows(objects):
             what = crossing(i, j, pieces)
             if what is not None:
                 yield i, j, what
+
+
+def row_numbers(objects):
+    """Each row is eight numbers: i, j, 1 for point or 2 for many, and the five numbers (0 for many)."""
+    return [number for i, j, what in rows(objects) for number in ((i, j, 2, 0, 0, 0, 0, 0) if what == 'many' else (i, j, 1, *what))]
 
 
 def listing(data):

@@ -52,6 +52,38 @@ def sheet(rng):
     return objects(rng, 40, (3, 4), 8)
 
 
+def spoilt(rng, numbers):
+    """One object made wrong, in one way or in two at once."""
+    at, beyond = reference.WIDTH * rng.randrange(len(numbers) // reference.WIDTH), reference.REACH + 1
+    for _ in range(rng.randint(1, 2)):
+        what = rng.randrange(4)
+        if what == 0:
+            numbers[at] = rng.choice((0, 5, -1, 2**63 - 1, -2**63))
+        elif what == 1:
+            numbers[at + rng.randint(1, 4)] = rng.choice((beyond, -beyond, beyond - 1, 1 - beyond, 2**63 - 1, -2**63))
+        elif what == 2:
+            numbers[at + 3:at + 5] = numbers[at + 1:at + 3]
+        else:
+            numbers[at:at + 2] = [4, rng.choice((0, 1, 4, 5))]
+
+
+def numbers(rng):
+    """The numbers of a sheet, one object after another, as a call takes them: often with wrong objects, a length that is no multiple of
+    five, or as many objects as may be and one more. The last one of so many has no kind: all pairs of them would take long to compare."""
+    made = [number for one in sheet(rng) for number in one]
+    which = rng.randrange(6)
+    if which == 0 and rng.randrange(4) == 0:
+        made = (made or [4, 1, 0, 0, 0]) * (reference.MOST + 1)
+        del made[reference.WIDTH * rng.choice((reference.MOST, reference.MOST + 1)):]
+        made[-reference.WIDTH] = 0
+    if which <= 2 and made:
+        for _ in range(rng.randint(1, 3)):
+            spoilt(rng, made)
+    if which in (0, 3) and rng.randrange(2):
+        made += [rng.choice((0, 1, 2, 5))] * rng.randint(1, 4)
+    return made
+
+
 def damaged(rng, data):
     """Bytes cut off, added, or changed; often at a number's top bit."""
     data = bytearray(data)
