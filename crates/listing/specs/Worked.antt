@@ -88,7 +88,9 @@ pub record WorkedListed : Type 0 where
   -- returns the length needed."
   room-for-all : listed (pos 0) 2 16 ≡ record { refusal = pos 0; rows = 2; length = 16 }
   no-room : listed (pos 0) 2 15 ≡ record { refusal = pos 10; rows = 0; length = 16 }
-  own-before-ten : (listed (pos 14) 2 15 ≡ record { refusal = pos 14; rows = 0; length = 0 }) × (listed (pos 1) 2 99 ≡ record { refusal = pos 1; rows = 0; length = 0 })
+  own-before-ten :
+      (listed (pos 14) 2 15 ≡ record { refusal = pos 14; rows = 0; length = 0 })
+      × (listed (pos 1) 2 99 ≡ record { refusal = pos 1; rows = 0; length = 0 })
   no-rows : listed (pos 0) 0 0 ≡ record { refusal = pos 0; rows = 0; length = 0 }
   -- "Rows stand at the front of the lent list."
   at-the-front : filled (allRefusal three) (rowsOf three) (lent 26) ≡ rowsOf three ++ lent 2
