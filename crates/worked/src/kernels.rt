@@ -51,10 +51,14 @@ pub fn numbers() {
     say::end();
 }
 
-// Coordinate 2,000 is taken and 2,001 refused, either way.
+// Each kind is made. Coordinate 2,000 is taken and 2,001 refused, either way.
 pub fn makers() {
     say::text(b"segment to 2000 2000");
     say::made(Object::segment(0, 0, 2000, 2000));
+    say::text(b"ray 1 2 through 3 4");
+    say::made(Object::ray(1, 2, 3, 4));
+    say::text(b"line 1 2 to 3 4");
+    say::made(Object::line(1, 2, 3, 4));
     say::text(b"segment to 2001 0");
     say::made(Object::segment(0, 0, 2001, 0));
     say::text(b"ray from 0 -2001");
