@@ -1,9 +1,10 @@
-"""docs/PAPER.md's last column: what notices a rule that is wrong in its definition and in the code alike. An entry is `NAME` (`file`)."""
+"""docs/PAPER.md's last column: what notices a rule that is wrong in its definition and in the code alike. An entry is `NAME`, `NAME` (`file`)."""
 import os, re
 
 # sections whose every row has a rule with a number or an order
 RULES = ('Points', 'Ends', 'Signs', 'Crossing', 'Numbers that say no', 'Stored drawing', 'Listing', 'On the screen')
 COLUMN = 'Noticed by'
+CASES = 'worked/stdout'  # each line begins with its case
 ESCAPED = '\\|'  # a bar that ends no cell
 
 
@@ -18,11 +19,20 @@ def sections(text):
         yield name, [cells(line) for line in lines if line.startswith('|') and not line.startswith('|--')]
 
 
+def entries(cell):
+    """Each name with the file that it stands in."""
+    for names, place in re.findall(r'((?:`[^`]+`, )*`[^`]+`) \(`([^`]+)`\)', cell):
+        yield from ((name, place) for name in re.findall(r'`([^`]+)`', names))
+
+
 def declared(root, name, place):
     """Why nothing of this name would notice anything there, or None."""
-    if place.startswith('tests/') or place == 'worked/stdout':
-        path = os.path.join(root, place if place.startswith('tests/') else f'crates/{place}')
+    if place.startswith('tests/'):
+        path = os.path.join(root, place)
         pattern = rf'(?<![\w-]){re.escape(name)}(?![\w-])'
+    elif place == CASES:
+        path = os.path.join(root, 'crates', place)
+        pattern = rf'(?m)^{re.escape(name)} '
     else:
         # a definition file: a field of a record or a theorem, of a module that is checked with its crate
         folder, module = os.path.split(place)
@@ -49,10 +59,10 @@ def complaints(root):
             continue
         at = head.index(COLUMN)
         for row in rows:
-            entries = re.findall(r'`([^`]+)` \(`([^`]+)`\)', row[at]) if len(row) == len(head) else []
-            if section in RULES and not entries:
+            named = list(entries(row[at])) if len(row) == len(head) else []
+            if section in RULES and not named:
                 yield f'{section}: nothing notices: {row[0]}'
-            for entry in entries:
+            for entry in named:
                 why = declared(root, *entry)
                 if why is not None:
                     yield f'{section}: {why}: {row[0]}'
