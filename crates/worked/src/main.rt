@@ -1,6 +1,7 @@
 // Document 01's cases, run: each line names a case and says what the calls answer. The file stdout has what they should.
 mod drawings;
 mod kernels;
+mod listings;
 mod say;
 mod screens;
 
@@ -13,6 +14,8 @@ fn main() {
     drawings::reading();
     drawings::limits();
     drawings::writing();
+    listings::every_pair();
+    listings::one_object();
     screens::edges();
     screens::every_end();
     screens::positions();

@@ -1,0 +1,57 @@
+// Listings, with the lent cells shown: room for one row and one cell more. A cell that holds 7 has not been touched.
+use crate::say;
+use listing::Listed;
+
+const UNTOUCHED: i64 = 7;
+
+const ROOM: usize = 9;
+
+fn answer(listed: Listed, rows: &[i64; ROOM]) {
+    say::number(listed.refusal);
+    say::count(listed.rows as u64);
+    say::count(listed.length as u64);
+    say::text(b" cells");
+    say::number(rows[0]);
+    say::number(rows[1]);
+    say::number(rows[2]);
+    say::number(rows[3]);
+    say::number(rows[4]);
+    say::number(rows[5]);
+    say::number(rows[6]);
+    say::number(rows[7]);
+    say::number(rows[8]);
+    say::end();
+}
+
+fn all(list: &[i64]) {
+    let mut rows = [UNTOUCHED; ROOM];
+    let listed = listing::list_all(list, &mut rows);
+    answer(listed, &rows);
+}
+
+// The rows of object i with all later ones.
+fn one(list: &[i64], i: usize) {
+    let mut rows = [UNTOUCHED; ROOM];
+    let listed = listing::list_one(list, i, &mut rows);
+    answer(listed, &rows);
+}
+
+pub fn every_pair() {
+    say::text(b"list segments 0 0 to 4 0 and 6 0 to 2 0");
+    all(&[1, 0, 0, 4, 0, 1, 6, 0, 2, 0]);
+    say::text(b"list a line, a segment and side 3");
+    all(&[3, 0, 0, 2, 1, 1, 0, 2, 2, 0, 4, 3, 0, 0, 0]);
+    say::text(b"list kind 9");
+    all(&[9, 0, 0, 0, 0]);
+}
+
+pub fn one_object() {
+    say::text(b"list side 3 of sides 1, 3 and 4");
+    one(&[4, 1, 0, 0, 0, 4, 3, 0, 0, 0, 4, 4, 0, 0, 0], 1);
+    say::text(b"list the first of three equal sides");
+    one(&[4, 2, 0, 0, 0, 4, 2, 0, 0, 0, 4, 2, 0, 0, 0], 0);
+    say::text(b"list object 2 of two objects");
+    one(&[1, 0, 0, 4, 0, 1, 6, 0, 2, 0], 2);
+    say::text(b"list object 2 of kind 9");
+    one(&[9, 0, 0, 0, 0], 2);
+}
