@@ -4,7 +4,7 @@ from fractions import Fraction
 from math import gcd
 
 REACH, MOST = 2000, 512
-WIDTH = 5                                       # numbers of an object in a list
+WIDTH, ROW = 5, 8                               # numbers of an object in a list, and of a row of a listing
 WIDEST, FAR = 32_000_000, 64_000_000_000        # w and n of a standard point
 NARROW, NEAR = 4_000, 8_000_000                 # w and n of a frame point
 FRAMES = (2 * 10**18, 3 * 10**18 + 7)
