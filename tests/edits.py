@@ -15,12 +15,13 @@ Said = collections.namedtuple('Said', 'file line made name words')
 
 # How the prover says that a fact does not hold. All else it says, known or not, shows nothing.
 FACT = re.compile('|'.join((
-    r'as printed, the two (types|values) (first )?differ ',
-    r'computed as far as they go, the two (types|values) (first )?differ ',
+    r'as printed, the two (types|values|sides) (first )?differ ',
+    r'computed as far as they go, the two (types|values|sides) (are `|(first )?differ )',
+    r'`[^`]*`\s+≟ `[^`]*`:?\s+does not hold ',
     r'expected type `',
     r'on the face `',
     r'give a proof of that as the last argument, `simp L t`',
-    r'`omega`: the goal does not follow from what it read')))
+    r'(`search`: no proof of (.|\n)*)?`omega`: the goal does not follow from what it read')))
 # A proof by hand walks the code step by step: any change of the code stops it, right or wrong. What its contract says stands in these.
 WALK_FACTS = ('exits', 'begins')
 NAMED = re.compile(r'fault: (\S+) in (\S+(?:, \S+)*)')
@@ -104,7 +105,7 @@ def apply(path, files):
 
 def said(log):
     """What a log says is wrong, in order. That a declaration rests on one that was refused says nothing of its own."""
-    for found in re.finditer(r'(?m)^(\S+?):(\d+):\d+: error: (?:`([^`]*)`: )?(.*)$|^note: (\S+?):(\d+):\d+: it is not proved that (.*)$', log):
+    for found in re.finditer(r'(?m)^(\S+?):(\d+):\d+: error: (?:`([^`]*)`: )?(.*(?:\n  .*)*)$|^note: (\S+?):(\d+):\d+: it is not proved that (.*)$', log):
         file, line, name, words, made, made_line, need = found.groups()
         if made:
             yield Said(made, int(made_line), True, None, need)
@@ -112,10 +113,13 @@ def said(log):
             yield Said(file, int(line), False, name, words)
 
 
-def is_fact(one):
-    """Whether what is said is that a fact does not hold."""
+def is_fact(one, changed):
+    """Whether what is said is that a fact does not hold. Where the edit itself stands, in a clause of src/ or in a changed file, its own text
+    may be at fault; and in a `-spec`, where the parts of a proof are put together, a part is missing or too many."""
     if one.made:
         return True
+    if one.file.endswith(('.rt', *changed)) or (one.name or '').endswith('-spec'):
+        return False
     walked = re.search(r'(?m)^\s*walk :', open(one.file).read()) if os.path.exists(one.file) else None
     return FACT.match(one.words) is not None and (not walked or one.name in WALK_FACTS)
 
@@ -140,8 +144,8 @@ def unshown(path, tried):
         for where, first in [(one, said_of(one, everything, tried)[:1]) for one in fault.functions] or [('', everything[:1])]:
             if not first:
                 yield f'{fault.name}: nothing was refused{where and " in the proof of " + where}'
-            elif not is_fact(first[0]):
-                yield f'{fault.name}: refused for another reason than a fact: {os.path.relpath(first[0].file, tried)}: {first[0].words}'
+            elif not is_fact(first[0], [f'/{file}' for file, _, _ in fault.changes]):
+                yield f'{fault.name}: refused for another reason than a fact: {os.path.relpath(first[0].file, tried)}: {first[0].words.splitlines()[0]}'
 
 
 def complaints(root):
