@@ -1,7 +1,7 @@
 """The wrong programs of crates/*/must-fail, and whether a fact refused each.
 
 An edit file has faults of functions, one under each line `fault: NAME in FUNCTION`, with the function's folder under proofs/; or, without
-such a line, one fault of a definition, a limit or a contract, named as the file is. The prover goes on after an error and judges each
+such a line, one fault of a definition, of a limit or of a contract, named as the file is. The prover goes on after an error and judges each
 function by its own proof, against the contracts of what it calls. So a fault in a body, or in a contract that no caller uses, shows in that
 function's proof and in no other.
 """

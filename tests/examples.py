@@ -4,11 +4,14 @@ import os, re
 # Name, and what its listing begins with: the sheet of document 01, a door portal, a sheet with every kind, a damaged file.
 EXAMPLES = {'worked': 'objects', 'portal': 'objects', 'kinds': 'objects', 'damaged': 'refused'}
 FORMS = ('hex', 'drawing', 'listing')
+HOW_MANY = ('no', 'one', 'two', 'three', 'four', 'five', 'six', 'seven', 'eight')[len(EXAMPLES)]
 
 
 def complaints(root, printers):
     """What is wrong with the examples. A printer gives the listing of bytes; each has a name."""
     there = set(os.listdir(f'{root}/examples')) if os.path.isdir(f'{root}/examples') else set()
+    if f'`examples/` has {HOW_MANY} drawings' not in open(f'{root}/README.md').read():
+        yield f'README.md does not say that `examples/` has {HOW_MANY} drawings'
     named = {f'{name}.{form}' for name in EXAMPLES for form in FORMS}
     yield from (f'examples/{file} is not there' for file in sorted(named - there))
     yield from (f'examples/{file} belongs to no example' for file in sorted(there - named))
