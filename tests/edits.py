@@ -114,11 +114,11 @@ def said(log):
 
 
 def is_fact(one, changed):
-    """Whether what is said is that a fact does not hold. Where the edit itself stands, in a clause of src/ or in a changed file, its own text
-    may be at fault; and in a `-spec`, where the parts of a proof are put together, a part is missing or too many."""
+    """Whether what is said is that a fact does not hold. In a clause of src/ and at a changed line the edit's own text may be at fault; and in a
+    `-spec`, where the parts of a proof are put together, a part is missing or too many."""
     if one.made:
         return True
-    if one.file.endswith(('.rt', *changed)) or (one.name or '').endswith('-spec'):
+    if one.file.endswith('.rt') or (one.file, one.line) in changed or (one.name or '').endswith('-spec'):
         return False
     walked = re.search(r'(?m)^\s*walk :', open(one.file).read()) if os.path.exists(one.file) else None
     return FACT.match(one.words) is not None and (not walked or one.name in WALK_FACTS)
@@ -133,18 +133,20 @@ def said_of(function, everything, tried):
             if at.path == function and one.file == f'{tried}/{at.file}' and at.lines[0] <= one.line <= at.lines[1]]
 
 
-def unshown(path, tried):
-    """What no fact refused, of an edit that was tried in a folder."""
+def unshown(path, before, tried):
+    """What no fact refused, of an edit that was tried in a folder; before: the files as they were."""
     log = open(f'{tried}/.log', errors='replace').read()
     if not re.search(r'(?m)^logic=not-proved', log):
         yield 'it was not refused'
     everything = list(said(log))
+    changed = {(f'{tried}/{file}', line) for file, text in files_of(tried).items()
+               for line, (old, new) in enumerate(zip(before[file].split('\n'), text.split('\n')), 1) if old != new}
     for fault in faults(path):
         # of a definition: the first error of all; the notes come behind the errors in a log
         for where, first in [(one, said_of(one, everything, tried)[:1]) for one in fault.functions] or [('', everything[:1])]:
             if not first:
                 yield f'{fault.name}: nothing was refused{where and " in the proof of " + where}'
-            elif not is_fact(first[0], [f'/{file}' for file, _, _ in fault.changes]):
+            elif not is_fact(first[0], changed):
                 yield f'{fault.name}: refused for another reason than a fact: {os.path.relpath(first[0].file, tried)}: {first[0].words.splitlines()[0]}'
 
 
@@ -157,11 +159,12 @@ def complaints(root):
         for path in edit_files(root, crate):
             here = os.path.relpath(path, root)
             tried = f'{root}/target/must-fail/{crate}/{os.path.basename(path)[:-len(".edit")]}'
-            files = files_of(f'{root}/crates/{crate}')
+            before = files_of(f'{root}/crates/{crate}')
+            files = dict(before)
             yield from (f'{here}: {words}' for words in apply(path, files))
             if not os.path.exists(f'{tried}/.log'):
                 yield f'{here}: it has no log: it was not tried'
             elif files != files_of(tried):
                 yield f'{here}: its log is of another text'
             else:
-                yield from (f'{here}: {words}' for words in unshown(path, tried))
+                yield from (f'{here}: {words}' for words in unshown(path, before, tried))
