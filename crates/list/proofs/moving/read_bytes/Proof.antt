@@ -1,0 +1,91 @@
+use borrow.Author.Needs.{needs}
+use mathlib.Core.Path.{_≡_}
+use Prim.Native.Nat.{_≤_}
+use native.Mathlib.Omega.{arith}
+use lib.ListN.{length}
+use mir.Syntax.{w64}
+use mir.ValLaws.{toZ-ofZ}
+use Rattle.list.specs.MovingLaws.{read-moved, counted}
+use Rattle.list.proofs.moving.read_bytes.Statement.{statement}
+use Rattle.list.proofs.moving.read_bytes.Tie as tie
+
+abbrev Inv-loop : tie.InvT-loop
+Inv-loop bytes₀ done₀ turns₀ t5 bytes done turns = (length bytes ≡ length bytes₀) × (done ≤ length bytes)
+
+abbrev μ-loop : tie.MeasureT-loop
+μ-loop bytes₀ done₀ turns₀ t5 bytes done turns = turns
+
+loop-holds : tie.Need-loop-holds Inv-loop μ-loop
+loop-holds c = omega arith
+
+read-rest-requires : tie.Need-read-rest-requires Inv-loop μ-loop
+read-rest-requires c κs = search needs
+
+goes-on-requires : tie.Need-goes-on-requires Inv-loop μ-loop
+goes-on-requires c κs = search needs
+
+slice-aggregate-fail : tie.Need-slice-aggregate-fail Inv-loop μ-loop
+slice-aggregate-fail c = search needs
+
+fail-requires : tie.Need-fail-requires Inv-loop μ-loop
+fail-requires c κs = search needs
+
+same-length : tie.Need-same-length Inv-loop μ-loop
+same-length c = search needs
+
+returns : tie.Need-returns Inv-loop μ-loop
+returns c = search needs
+
+sub-turns : tie.Need-sub-turns Inv-loop μ-loop
+sub-turns c = omega arith
+
+after-requires : tie.Need-after-requires Inv-loop μ-loop
+after-requires c κs =
+    let r = c .before .before .before .before .before .before .read-rest in
+    let s = c .before .before .before .before .before .before .before .before .before .loop in
+    let l : length (r .last .0) ≡ length (s .bytes) = search needs in
+    (omega (arith, l), read-moved _ _ (s .done) (r .result) _ l (toZ-ofZ w64 (r .result) (record { sfits = r .ok })) (r .ensures))
+
+loop-less : tie.Need-loop-less Inv-loop μ-loop
+loop-less c = omega arith
+
+loop-again : tie.Need-loop-again Inv-loop μ-loop
+loop-again c = omega arith
+
+same-length-2 : tie.Need-same-length-2 Inv-loop μ-loop
+same-length-2 c = search needs
+
+returns-2 : tie.Need-returns-2 Inv-loop μ-loop
+returns-2 c = counted _ _ (let h : c .before .loop .done ≤ length (c .before .loop .bytes) = omega arith in h)
+
+same-length-3 : tie.Need-same-length-3 Inv-loop μ-loop
+same-length-3 c = search needs
+
+returns-3 : tie.Need-returns-3 Inv-loop μ-loop
+returns-3 c =
+    let r = c .before .before .before .read-rest in
+    let s = c .before .before .before .before .before .before .loop in
+    let l : length (r .last .0) ≡ length (s .bytes) = search needs in
+    counted (s .done) (r .last .0) (omega (arith, l))
+
+pub read-bytes-spec : {M : Type 1} → statement M
+read-bytes-spec =
+    tie.close
+    (tie.spec
+    Inv-loop
+    μ-loop
+    loop-holds
+    read-rest-requires
+    goes-on-requires
+    slice-aggregate-fail
+    fail-requires
+    same-length
+    returns
+    sub-turns
+    after-requires
+    loop-less
+    loop-again
+    same-length-2
+    returns-2
+    same-length-3
+    returns-3)

@@ -1,0 +1,29 @@
+-- `write_rest` hands on what is left, and C's answer speaks of that.
+use borrow.Author.Needs.{needs}
+use mir.Syntax.{w64}
+use mir.ValLaws.{toZ-ofZ}
+use Rattle.list.specs.MovingLaws.{rest-moved}
+use Rattle.list.proofs.moving.write_rest.Statement.{statement}
+use Rattle.list.proofs.moving.write_rest.Tie as tie
+
+sub-write : tie.Need-sub-write
+sub-write c = search needs
+
+part-write-start : tie.Need-part-write-start
+part-write-start c = search needs
+
+part-write-end : tie.Need-part-write-end
+part-write-end c = search needs
+
+write-requires : tie.Need-write-requires
+write-requires c κs = search needs
+
+returns : tie.Need-returns
+returns c =
+    let s = c .before .before .before in
+    let r = c .write in
+    rest-moved (s .args .text .now) (s .args .done) (r .result) _ (toZ-ofZ w64 (r .result) (record { sfits = r .ok })) (r .ensures)
+
+pub write-rest-spec : {M : Type 1} → statement M
+write-rest-spec =
+    tie.close (tie.spec sub-write part-write-start part-write-end write-requires returns)

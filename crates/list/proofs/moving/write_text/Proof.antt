@@ -1,0 +1,60 @@
+use borrow.Author.Needs.{needs}
+use mathlib.Core.Path.{_≡_, sym}
+use Prim.Native.Nat.{_≤_}
+use native.Mathlib.Omega.{arith}
+use lib.ListN.{length}
+use Rattle.list.proofs.moving.write_text.Statement.{statement}
+use Rattle.list.proofs.moving.write_text.Tie as tie
+
+abbrev Inv-loop : tie.InvT-loop
+Inv-loop text done₀ turns₀ done turns = done ≤ length text
+
+abbrev μ-loop : tie.MeasureT-loop
+μ-loop text done₀ turns₀ done turns = turns
+
+loop-holds : tie.Need-loop-holds Inv-loop μ-loop
+loop-holds c = omega arith
+
+write-rest-requires : tie.Need-write-rest-requires Inv-loop μ-loop
+write-rest-requires c κs = search needs
+
+goes-on-requires : tie.Need-goes-on-requires Inv-loop μ-loop
+goes-on-requires c κs = search needs
+
+fail-text-requires : tie.Need-fail-text-requires Inv-loop μ-loop
+fail-text-requires c κs = search needs
+
+returns : tie.Need-returns Inv-loop μ-loop
+returns c = search needs
+
+sub-turns : tie.Need-sub-turns Inv-loop μ-loop
+sub-turns c = omega arith
+
+after-requires : tie.Need-after-requires Inv-loop μ-loop
+after-requires c κs = search needs
+
+loop-less : tie.Need-loop-less Inv-loop μ-loop
+loop-less c = omega arith
+
+loop-again : tie.Need-loop-again Inv-loop μ-loop
+loop-again c = omega arith
+
+returns-2 : tie.Need-returns-2 Inv-loop μ-loop
+returns-2 c = search needs
+
+pub write-text-spec : {M : Type 1} → statement M
+write-text-spec =
+    tie.close
+    (tie.spec
+    Inv-loop
+    μ-loop
+    loop-holds
+    write-rest-requires
+    goes-on-requires
+    fail-text-requires
+    returns
+    sub-turns
+    after-requires
+    loop-less
+    loop-again
+    returns-2)
