@@ -153,21 +153,18 @@ fn say_listing(whole: bool, list: &[i64], count: usize) -> bool
     ensures { λ r. do ⌜ (← ⟦NUMBERS⟧ .entry) ≡ most * width ⌝ }
     ensures { λ r. do ⌜ ((← ⟦ROWS⟧ .entry) ≡ (most - 1) * rowWidth) × ((← ⟦TEXT⟧ .entry) ≡ (most - 1) * rowMost) ⌝ }
 {
-    let mut went = say_objects(whole, count);
-    if !went {
-        return false;
-    }
     let objects = of_most(count);
+    let mut went = say_objects(whole, count);
     let mut total: usize = 0;
     let mut i: usize = 0;
-    while i < objects {
+    while went && i < objects {
         let said = say_rows(went, list, i);
         went = said.whole;
-        if !went {
-            return false;
-        }
         total += said.rows;
         i += 1;
+    }
+    if !went {
+        return false;
     }
     say_count(went, total)
 }

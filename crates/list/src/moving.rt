@@ -12,6 +12,8 @@ const STATUS_FILENO: i32 = 3;
 // The turns of a loop that may have to wait. A proved loop has to end, and nothing says that the other end of a pipe is ever read: this many
 // turns last longer than a machine.
 const TURNS: u64 = u64::MAX;
+// How long the program waits, in nanoseconds, before it makes a call again that would have blocked.
+const NAP: i64 = 2000000;
 
 // What was read: whether all of the input was, and how many bytes it has. Where not all of it was, none count.
 pub struct Taken {
@@ -19,9 +21,17 @@ pub struct Taken {
     pub length: usize,
 }
 
-// Lets others work for a while.
+// Waits for a while. A reference to a struct is proved by a walk of the code, so there is nothing else here.
 fn wait() {
-    libc::sched_yield();
+    let asked = libc::types::timespec {
+        tv_sec: 0,
+        tv_nsec: NAP,
+    };
+    let mut left = libc::types::timespec {
+        tv_sec: 0,
+        tv_nsec: 0,
+    };
+    libc::nanosleep(&asked, &mut left);
 }
 
 // Whether a call that failed is to be made again.

@@ -1,8 +1,8 @@
--- `say_listing` goes on only where all before went, is safe and ends. The invariant: all went, and each object so far had at most `most` rows.
+-- `say_listing` begins a text only where all before it went, is safe and ends. The invariant: each object so far had at most `most` rows.
 use borrow.Author.Needs.{needs}
-use mathlib.Core.Path.{_≡_, refl}
-use mathlib.Core.Bool.{true}
-use Prim.Native.Nat.{_≤_, _*_, _-_}
+use borrow.Author.Tests.{ltb-true}
+use mathlib.Core.Path.{refl}
+use Prim.Native.Nat.{_≤_, _<_, _*_, _-_}
 use native.Mathlib.Omega.{arith}
 use Rattle.sheet.specs.Limits.{most}
 use Rattle.list.specs.MovingLaws.{kept}
@@ -10,28 +10,25 @@ use Rattle.list.proofs.say_listing.Statement.{statement}
 use Rattle.list.proofs.say_listing.Tie as tie
 
 abbrev Inv-loop : tie.InvT-loop
-Inv-loop whole list count went₀ objects total₀ i₀ went total i = (went ≡ true) × (i ≤ objects) × (total ≤ most * i)
+Inv-loop whole list count objects went₀ total₀ i₀ went total i = (i ≤ objects) × (total ≤ most * i)
 
 abbrev μ-loop : tie.MeasureT-loop
-μ-loop whole list count went₀ objects total₀ i₀ went total i = objects - i
+μ-loop whole list count objects went₀ total₀ i₀ went total i = objects - i
 
-say-objects-requires : tie.Need-say-objects-requires Inv-loop μ-loop
-say-objects-requires c κs = search needs
-
-returns : tie.Need-returns Inv-loop μ-loop
-returns c = search needs
+not-last : (c : tie.Then1 Inv-loop μ-loop) → c .before .before .loop .i < c .before .before .before .before .of-most .result
+not-last c = ltb-true _ _ (c .if1 .taken)
 
 of-most-requires : tie.Need-of-most-requires Inv-loop μ-loop
 of-most-requires c κs = search needs
 
+say-objects-requires : tie.Need-say-objects-requires Inv-loop μ-loop
+say-objects-requires c κs = search needs
+
 loop-holds : tie.Need-loop-holds Inv-loop μ-loop
-loop-holds c = (search (needs, kept), omega arith, omega arith)
+loop-holds c = omega arith
 
 say-rows-requires : tie.Need-say-rows-requires Inv-loop μ-loop
 say-rows-requires c κs = search needs
-
-returns-2 : tie.Need-returns-2 Inv-loop μ-loop
-returns-2 c = search needs
 
 add-total : tie.Need-add-total Inv-loop μ-loop
 add-total c = omega arith
@@ -40,16 +37,19 @@ add-i : tie.Need-add-i Inv-loop μ-loop
 add-i c = omega arith
 
 loop-less : tie.Need-loop-less Inv-loop μ-loop
-loop-less c = omega arith
+loop-less c = omega (arith, not-last (c .before .before))
 
 loop-again : tie.Need-loop-again Inv-loop μ-loop
-loop-again c = (search (needs, kept), omega arith, omega arith)
+loop-again c = omega (arith, not-last (c .before .before))
+
+returns : tie.Need-returns Inv-loop μ-loop
+returns c = (refl, (refl, refl))
 
 say-count-requires : tie.Need-say-count-requires Inv-loop μ-loop
-say-count-requires c κs = search needs
+say-count-requires c κs = search (needs, kept)
 
-returns-3 : tie.Need-returns-3 Inv-loop μ-loop
-returns-3 c = search needs
+returns-2 : tie.Need-returns-2 Inv-loop μ-loop
+returns-2 c = (refl, (refl, refl))
 
 pub say-listing-spec : {M : Type 1} → statement M
 say-listing-spec =
@@ -57,15 +57,14 @@ say-listing-spec =
     (tie.spec
     Inv-loop
     μ-loop
-    say-objects-requires
-    returns
     of-most-requires
+    say-objects-requires
     loop-holds
     say-rows-requires
-    returns-2
     add-total
     add-i
     loop-less
     loop-again
+    returns
     say-count-requires
-    returns-3)
+    returns-2)
