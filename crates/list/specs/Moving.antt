@@ -1,5 +1,7 @@
 -- What the program says of the bytes that it moves, and of its status.
 use Prim.Native.Nat.{ℕ, zero, suc, _+_}
+use mathlib.Core.Path.{_≡_}
+use mathlib.Core.Logic.{_⊎_}
 use mathlib.Core.Bool.{Bool, cond}
 use lib.IntN.{ℤ, pos, negsuc}
 
@@ -16,3 +18,7 @@ answered (negsuc n) = 49
 
 abbrev pub told : Bool → ℤ → ℕ
 told whole refusal = cond whole (answered refusal) 51
+
+-- the status of a drawing that is refused so, or not: where something did not go it says that instead
+abbrev pub Tells : ℤ → ℕ → Type 0
+Tells refusal status = (status ≡ 51) ⊎ (status ≡ answered refusal)

@@ -8,9 +8,9 @@ ghost use lib.ListN.{length, take};
 ghost use Rattle.io.specs.Counts.{Counts};
 ghost use Rattle.sheet.specs.Limits.{most};
 ghost use Rattle.sheet.specs.Lists.{width, rowWidth};
-ghost use Rattle.store.specs.Stored.{longest};
+ghost use Rattle.store.specs.Stored.{longest, readDrawing};
 ghost use Rattle.rowtext.specs.Put.{rowMost};
-ghost use Rattle.list.specs.Moving.{told};
+ghost use Rattle.list.specs.Moving.{told, Tells};
 ghost use mathlib.Core.Bool.{true};
 
 // The bytes of the longest drawing: the count in two, and each object with its kind in one and four coordinates in two.
@@ -175,6 +175,7 @@ fn say_drawing(taken: bool, bytes: &[u8], got: usize) -> u8
     requires { ⌜ taken ≡ true ⌝ }
     requires { ⌜ length (now bytes) ≡ longest + 1 ⌝ }
     requires { ⌜ Counts got (now bytes) ⌝ }
+    ensures { λ r. ⌜ Tells (readDrawing (take got (now (bytes .entry))) .refusal) r ⌝ }
 {
     let mut list = [0i64; NUMBERS];
     let read = store::read_drawing(&bytes[..got], &mut list);

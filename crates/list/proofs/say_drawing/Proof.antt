@@ -1,7 +1,30 @@
 use borrow.Author.Needs.{needs}
+use mathlib.Core.Path.{_≡_, refl, ap, _∙_}
+use mathlib.Core.Logic.{inl}
+use lib.IntN.{ℤ}
+use lib.ListN.{take}
+use mir.Syntax.{w64}
+use mir.Val.{toZ, ofZ}
+use mir.ValLaws.{toZ-ofZ}
+use Rattle.store.specs.declared.Read.{Read}
+use Rattle.store.specs.Stored.{readDrawing}
 use Rattle.list.specs.MovingLaws.{kept}
+use Rattle.list.specs.ReadingLaws.{refusal-is, tells}
 use Rattle.list.proofs.say_drawing.Statement.{statement}
 use Rattle.list.proofs.say_drawing.Tie as tie
+
+abbrev out : ℤ → ℤ
+out z = toZ w64 (ofZ w64 z)
+
+-- what was read is refused as the drawing is
+refusal : (c : tie.After-read-drawing)
+    → c .read-drawing .result .refusal ≡ readDrawing (take (c .before .before .before .before .args .got) (c .before .before .before .before .args .bytes .now)) .refusal
+refusal c = ap (λ (r : Read). r .refusal) (c .read-drawing .ensures .0) ∙ refusal-is _ _ refl
+
+seen : (c : tie.After-struct-told)
+    → out (c .before .before .read-drawing .result .refusal)
+    ≡ readDrawing (take (c .before .before .before .before .before .before .args .got) (c .before .before .before .before .before .before .args .bytes .now)) .refusal
+seen c = toZ-ofZ w64 (c .before .before .read-drawing .result .refusal) (record { sfits = c .struct-told .given .0 .1 }) ∙ refusal (c .before .before)
 
 slice-aggregate-read-drawing : tie.Need-slice-aggregate-read-drawing
 slice-aggregate-read-drawing c = search needs
@@ -16,7 +39,7 @@ say-head-requires : tie.Need-say-head-requires
 say-head-requires c κs = search needs
 
 returns : tie.Need-returns
-returns c = search needs
+returns c = inl refl
 
 say-refused-requires : tie.Need-say-refused-requires
 say-refused-requires c κs = search (needs, kept)
@@ -25,7 +48,7 @@ status-requires : tie.Need-status-requires
 status-requires c κs = search needs
 
 returns-2 : tie.Need-returns-2
-returns-2 c = search needs
+returns-2 c = tells (c .before .say-refused .result) _ _ (c .status .result) (seen (c .before .before .before .before .before)) (c .status .ensures)
 
 slice-aggregate-of-numbers : tie.Need-slice-aggregate-of-numbers
 slice-aggregate-of-numbers c = search needs
@@ -46,7 +69,7 @@ status-requires-2 : tie.Need-status-requires-2
 status-requires-2 c κs = search needs
 
 returns-3 : tie.Need-returns-3
-returns-3 c = search needs
+returns-3 c = tells (c .before .say-listing .result) _ _ (c .status2 .result) (seen (c .before .before .before .before .before .before .before .before)) (c .status2 .ensures)
 
 pub say-drawing-spec : {M : Type 1} → statement M
 say-drawing-spec =
