@@ -10,15 +10,25 @@ abbrev pub gone : ℕ → ℤ → ℕ
 gone done (pos k) = done + k
 gone done (negsuc k) = done
 
--- the status, as the code of a digit: 0 for a whole listing and 1 for a refused drawing, where all of it went; else 3
+-- what the program tells, as the codes of the digits 0, 1 and 3: a whole listing, a refused drawing, something that did not go
+abbrev pub listed : ℕ
+listed = 48
+
+abbrev pub refused : ℕ
+refused = 49
+
+abbrev pub unwritten : ℕ
+unwritten = 51
+
+-- of a drawing with this refusal, where all went
 abbrev pub answered : ℤ → ℕ
-answered (pos zero) = 48
-answered (pos (suc n)) = 49
-answered (negsuc n) = 49
+answered (pos zero) = listed
+answered (pos (suc n)) = refused
+answered (negsuc n) = refused
 
 abbrev pub told : Bool → ℤ → ℕ
-told whole refusal = cond whole (answered refusal) 51
+told whole refusal = cond whole (answered refusal) unwritten
 
--- the status of a drawing that is refused so, or not: where something did not go it says that instead
+-- what may be told of a drawing with this refusal
 abbrev pub Tells : ℤ → ℕ → Type 0
-Tells refusal status = (status ≡ 51) ⊎ (status ≡ answered refusal)
+Tells refusal status = (status ≡ unwritten) ⊎ (status ≡ answered refusal)

@@ -6,7 +6,7 @@
 --   kept            where `!b` was not taken, b holds
 --   counted         so many bytes at the front
 -- An answer is z, and o is what the code reads it as. Assumes nothing.
-use mathlib.Core.Path.{_≡_, refl, sym, ap, subst, _∙_}
+use mathlib.Core.Path.{_≡_, refl, sym, subst}
 use mathlib.Core.Bool.{Bool, true, false, not, true≢false}
 use mathlib.Core.List.{List}
 use Prim.Native.Nat.{ℕ, _+_, _-_, _≤_}

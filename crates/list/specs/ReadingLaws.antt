@@ -2,9 +2,9 @@
 --   refusal-is      a list for the most objects has room for every drawing, so that reading into it refuses what the drawing does
 --   tells           the status of a drawing, from what `status` answers
 -- Assumes nothing.
-use mathlib.Core.Path.{_≡_, refl, sym, ap, _∙_}
+use mathlib.Core.Path.{_≡_, refl, ap, _∙_}
 use mathlib.Core.Bool.{Bool, true, false, cond}
-use mathlib.Core.Logic.{_⊎_, inl, inr}
+use mathlib.Core.Logic.{inl, inr}
 use mathlib.Core.List.{List}
 use Prim.Native.Nat.{ℕ, zero, suc, _*_, _≤_}
 use native.Mathlib.Omega.{arith}
@@ -15,7 +15,7 @@ use lib.ListN.{length}
 use Rattle.sheet.specs.Limits.{most}
 use Rattle.sheet.specs.Lists.{width}
 use Rattle.sheet.specs.Signs.{orElse}
-use Rattle.store.specs.Stored.{Reading, readCount, counted, readDrawing}
+use Rattle.store.specs.Stored.{Reading, counted, readDrawing}
 use Rattle.store.specs.Answers.{readAnswer}
 use Rattle.store.specs.ObjectsLaws.{objects-length}
 use Rattle.store.specs.SureLaws.{Sure, sure-count}

@@ -1,3 +1,4 @@
+-- `main` goes on only where all of the input was read, into as many bytes as `say_drawing` asks for.
 use borrow.Author.Needs.{needs}
 use Rattle.list.specs.MovingLaws.{kept}
 use Rattle.list.proofs.main.Statement.{statement}

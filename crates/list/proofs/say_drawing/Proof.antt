@@ -1,3 +1,4 @@
+-- `say_drawing` prints only where all before it went, and answers the status of what was read, or that something did not go.
 use borrow.Author.Needs.{needs}
 use mathlib.Core.Path.{_≡_, refl, ap, _∙_}
 use mathlib.Core.Logic.{inl}

@@ -1,24 +1,24 @@
 -- `status` meets its contract, by the two tests.
-use mathlib.Core.Path.{_≡_, refl, sym, subst, ap}
+use mathlib.Core.Path.{_≡_, refl, sym, ap}
 use mathlib.Core.Bool.{Bool, true, false, not, true≢false}
 use Prim.Native.Nat.{ℕ, zero, suc}
 use lib.IntN.{ℤ, pos, negsuc}
 use mir.Syntax.{w64}
 use mir.Val.{ofZ}
 use Rattle.sheet.specs.AnswersLaws.{not-refused}
-use Rattle.list.specs.Moving.{answered, told}
+use Rattle.list.specs.Moving.{listed, refused, unwritten, answered, told}
 use Rattle.list.specs.MovingLaws.{kept}
 use Rattle.list.proofs.status.Statement.{statement}
 use Rattle.list.proofs.status.Tie as tie
 
-cut-short : (whole : Bool) (z : ℤ) → not whole ≡ true → 51 ≡ told whole z
+cut-short : (whole : Bool) (z : ℤ) → not whole ≡ true → unwritten ≡ told whole z
 cut-short true z e = absurd (true≢false (sym e))
 cut-short false z e = refl
 
-refused : (z : ℤ) → (z ≡ pos 0 → ⊥) → 49 ≡ answered z
-refused (pos zero) e = absurd (e refl)
-refused (pos (suc n)) e = refl
-refused (negsuc n) e = refl
+no : (z : ℤ) → (z ≡ pos 0 → ⊥) → refused ≡ answered z
+no (pos zero) e = absurd (e refl)
+no (pos (suc n)) e = refl
+no (negsuc n) e = refl
 
 went : (whole : Bool) (z : ℤ) (n : ℕ) → whole ≡ true → n ≡ answered z → n ≡ told whole z
 went true z n e h = h
@@ -30,13 +30,13 @@ returns c = cut-short (c .before .args .whole) (c .before .args .refusal) (c .if
 returns-2 : tie.Need-returns-2
 returns-2 c =
     let s = c .before .before in
-    went (s .args .whole) (s .args .refusal) 49 (kept (s .args .whole) (c .before .if1 .left))
-    (refused (s .args .refusal) (λ e. c .if2 .taken (ap (ofZ w64) e)))
+    went (s .args .whole) (s .args .refusal) refused (kept (s .args .whole) (c .before .if1 .left))
+    (no (s .args .refusal) (λ e. c .if2 .taken (ap (ofZ w64) e)))
 
 returns-3 : tie.Need-returns-3
 returns-3 c =
     let s = c .before .before in
-    went (s .args .whole) (s .args .refusal) 48 (kept (s .args .whole) (c .before .if1 .left))
+    went (s .args .whole) (s .args .refusal) listed (kept (s .args .whole) (c .before .if1 .left))
     (ap answered (sym (not-refused {r = s .args .refusal} (s .fits .refusal .sfits) refl (c .if2 .left))))
 
 pub status-spec : {M : Type 1} → statement M

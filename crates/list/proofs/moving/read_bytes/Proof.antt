@@ -1,3 +1,4 @@
+-- `read_bytes` answers how many bytes were read. The invariant: these are a front of the lent ones. The measure is the number of turns that are left.
 use borrow.Author.Needs.{needs}
 use mathlib.Core.Path.{_≡_}
 use Prim.Native.Nat.{_≤_}

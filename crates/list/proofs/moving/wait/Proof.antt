@@ -1,7 +1,7 @@
 -- `wait` meets its contract: a walk of its MIR, by hand. The two times are made, lent to `nanosleep` for two lifetimes that are made for the call, and come back once these have ended.
 -- All that the proof knows of `nanosleep` is that it meets its contract.
 -- Assumes nothing.
-use mathlib.Core.Path.{_≡_, refl}
+use mathlib.Core.Path.{refl}
 use Prim.Native.Nat.{ℕ, _<_, _^_}
 use mathlib.Core.List.{[], _∷_, List}
 use lib.Dec.{T as Holds, ltb, lit<}
@@ -27,7 +27,7 @@ use sound.WpLaws.{FmC, fmOf, WpFn-mono}
 use denote.RattleType.{RattleType}
 use denote.Laws.{Is, shows}
 use denote.Memory.{mem, partAt, cellAt, partOf}
-use denote.Signed.{SInt, sint-lawful}
+use denote.Signed.{sint-lawful}
 use denote.Builtin.{i32}
 use denote.Ref.{RefT, MutRef, ShrRef}
 use denote.Lend.{lends-ref, lends-shr}
@@ -39,7 +39,7 @@ use denote.Triple.Statement.{Contract, Triple}
 use denote.Triple.Call.{calls-at}
 use denote.Triple.Clauses.{ensured}
 use denote.Triple.Table.{entered, cited}
-use denote.Triple.Walked.{says, Stays, walkOf, Walks, ends-at, walked, walk-meets}
+use denote.Triple.Walked.{Stays, walkOf, Walks, ends-at, walked, walk-meets}
 use Rattle.libc.specs.declared.types.timespec.{timespec}
 use Rattle.libc.proofs.types.timespec as T
 use Rattle.libc.proofs.types.timespec.Laws as T′

@@ -1,5 +1,5 @@
+-- `write_text` is safe and ends. The invariant: what has gone is a front of the text. The measure is the number of turns that are left.
 use borrow.Author.Needs.{needs}
-use mathlib.Core.Path.{_≡_, sym}
 use Prim.Native.Nat.{_≤_}
 use native.Mathlib.Omega.{arith}
 use lib.ListN.{length}
