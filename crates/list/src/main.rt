@@ -80,14 +80,6 @@ fn status(whole: bool, refusal: i64) -> u8
     LISTED
 }
 
-// Hands a text on to standard output, and answers whether all of it went. `whole` is whether all before it went, and a text is begun nowhere
-// else: a caller that goes on after a no is refused by that.
-fn hand_on(whole: bool, text: &[u8]) -> bool
-    requires { ⌜ whole ≡ true ⌝ }
-{
-    moving::write_text(text)
-}
-
 // Prints the program's first argument, which the command `./list` makes the line that names a file.
 fn say_head(whole: bool) -> bool
     requires { ⌜ whole ≡ true ⌝ }
@@ -98,7 +90,8 @@ fn say_head(whole: bool) -> bool
         os::fail(b"list: the line that names a file");
         return false;
     }
-    hand_on(whole, &text[..n])
+    let sent = moving::hand_on(whole, &text[..n]);
+    sent.whole
 }
 
 fn say_refused(whole: bool, number: i64) -> bool
@@ -107,7 +100,8 @@ fn say_refused(whole: bool, number: i64) -> bool
     let mut text = [0u8; rowtext::LINE_MOST];
     let put = rowtext::put_refused(number, &mut text);
     let n = of_bytes(put.length, &text);
-    hand_on(whole, &text[..n])
+    let sent = moving::hand_on(whole, &text[..n]);
+    sent.whole
 }
 
 fn say_objects(whole: bool, count: usize) -> bool
@@ -116,7 +110,8 @@ fn say_objects(whole: bool, count: usize) -> bool
     let mut text = [0u8; rowtext::LINE_MOST];
     let put = rowtext::put_objects(count as u64, &mut text);
     let n = of_bytes(put.length, &text);
-    hand_on(whole, &text[..n])
+    let sent = moving::hand_on(whole, &text[..n]);
+    sent.whole
 }
 
 fn say_count(whole: bool, count: usize) -> bool
@@ -125,7 +120,8 @@ fn say_count(whole: bool, count: usize) -> bool
     let mut text = [0u8; rowtext::LINE_MOST];
     let put = rowtext::put_count(count as u64, &mut text);
     let n = of_bytes(put.length, &text);
-    hand_on(whole, &text[..n])
+    let sent = moving::hand_on(whole, &text[..n]);
+    sent.whole
 }
 
 // Prints the rows of object i with all later ones, and answers how many.
@@ -139,9 +135,9 @@ fn say_rows(whole: bool, list: &[i64], i: usize) -> Said
     let mut text = [0u8; TEXT];
     let put = rowtext::put_rows(&rows[..length], &mut text);
     let n = of_bytes(put.length, &text);
-    let went = hand_on(whole, &text[..n]);
+    let sent = moving::hand_on(whole, &text[..n]);
     Said {
-        whole: went,
+        whole: sent.whole,
         rows: of_most(listed.rows),
     }
 }

@@ -1,7 +1,9 @@
 // Bytes in and out, by the C library's calls. A call that was interrupted is made again, and one that would block after a while. Any other
 // failure is said on standard error.
 ghost use mathlib.Core.Path.{_≡_};
+ghost use mathlib.Core.Bool.{true};
 ghost use Prim.Native.Nat.{_-_, _≤_};
+ghost use lib.Dec.{eqb};
 ghost use lib.ListN.{length};
 ghost use Rattle.io.specs.Counts.{Counts};
 ghost use Rattle.libc.specs.Io.{Moved};
@@ -14,6 +16,12 @@ const STATUS_FILENO: i32 = 3;
 const TURNS: u64 = u64::MAX;
 // How long the program waits, in nanoseconds, before it makes a call again that would have blocked.
 const NAP: i64 = 2000000;
+
+// What was handed on of a text: whether all of it went, and how many of its bytes.
+pub struct Sent {
+    pub whole: bool,
+    pub length: usize,
+}
 
 // What was read: whether all of the input was, and how many bytes it has. Where not all of it was, none count.
 pub struct Taken {
@@ -96,21 +104,28 @@ fn goes_on(answer: isize) -> bool {
     answer > 0
 }
 
-// Writes all of the text and answers true, or stops at the first write that fails or takes nothing, says so and answers false. Of an empty
-// text nothing is written.
-pub fn write_text(text: &[u8]) -> bool {
+// Hands a text on to standard output: all of it, or it stops at the first write that fails or takes nothing, and says so. `whole` is whether
+// all before it went, and a text is begun nowhere else: a caller that goes on after a no is refused by that.
+pub fn hand_on(whole: bool, text: &[u8]) -> Sent
+    requires { ⌜ whole ≡ true ⌝ }
+    ensures { λ r. ⌜ r .whole ≡ eqb (r .length) (length (now (text .entry))) ⌝ }
+{
     let mut done: usize = 0;
     let mut turns: u64 = TURNS;
     while done < text.len() {
         let answer = write_rest(text, done);
         if turns == 0 || !goes_on(answer) {
             fail_text(answer);
-            return false;
+            break;
         }
         turns -= 1;
         done = after(done, answer, text.len());
     }
-    true
+    let all = done == text.len();
+    Sent {
+        whole: all,
+        length: done,
+    }
 }
 
 // Reads until the input ends or the bytes are full. Where a read fails it says so, and what was read before does not count.

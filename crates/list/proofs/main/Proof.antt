@@ -1,5 +1,6 @@
 -- `main` goes on only where all of the input was read, into as many bytes as `say_drawing` asks for.
 use borrow.Author.Needs.{needs}
+use native.Mathlib.Omega.{arith}
 use Rattle.list.specs.MovingLaws.{kept}
 use Rattle.list.proofs.main.Statement.{statement}
 use Rattle.list.proofs.main.Tie as tie
@@ -20,7 +21,7 @@ slice-aggregate-say-drawing : tie.Need-slice-aggregate-say-drawing
 slice-aggregate-say-drawing c = search needs
 
 say-drawing-requires : tie.Need-say-drawing-requires
-say-drawing-requires c κs = search (needs, kept)
+say-drawing-requires c κs = (kept _ (c .before .if1 .left), (omega arith, c .before .before .before .before .read-bytes .ensures))
 
 tell-requires-2 : tie.Need-tell-requires-2
 tell-requires-2 c κs = search needs

@@ -37,13 +37,13 @@ read-drawing-requires : tie.Need-read-drawing-requires
 read-drawing-requires c κs = search needs
 
 say-head-requires : tie.Need-say-head-requires
-say-head-requires c κs = search needs
+say-head-requires c κs = c .before .before .before .before .before .before .pre .0
 
 returns : tie.Need-returns
 returns c = inl refl
 
 say-refused-requires : tie.Need-say-refused-requires
-say-refused-requires c κs = search (needs, kept)
+say-refused-requires c κs = kept _ (c .before .if1 .left)
 
 status-requires : tie.Need-status-requires
 status-requires c κs = search needs
@@ -64,7 +64,7 @@ slice-aggregate-say-listing : tie.Need-slice-aggregate-say-listing
 slice-aggregate-say-listing c = search needs
 
 say-listing-requires : tie.Need-say-listing-requires
-say-listing-requires c κs = search (needs, kept)
+say-listing-requires c κs = kept _ (c .before .before .before .before .if1 .left)
 
 status-requires-2 : tie.Need-status-requires-2
 status-requires-2 c κs = search needs

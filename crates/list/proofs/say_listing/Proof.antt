@@ -28,7 +28,7 @@ loop-holds : tie.Need-loop-holds Inv-loop μ-loop
 loop-holds c = omega arith
 
 say-rows-requires : tie.Need-say-rows-requires Inv-loop μ-loop
-say-rows-requires c κs = search needs
+say-rows-requires c κs = c .before .loop-test .taken
 
 add-total : tie.Need-add-total Inv-loop μ-loop
 add-total c = omega arith
@@ -46,7 +46,7 @@ returns : tie.Need-returns Inv-loop μ-loop
 returns c = (refl, (refl, refl))
 
 say-count-requires : tie.Need-say-count-requires Inv-loop μ-loop
-say-count-requires c κs = search (needs, kept)
+say-count-requires c κs = kept _ (c .if2 .left)
 
 returns-2 : tie.Need-returns-2 Inv-loop μ-loop
 returns-2 c = (refl, (refl, refl))

@@ -1,16 +1,18 @@
--- `write_text` is safe and ends. The invariant: what has gone is a front of the text. The measure is the number of turns that are left.
+-- `hand_on` says that all went exactly where as many bytes went as the text has. The invariant: what has gone is a front of the text. The
+-- measure is the number of turns that are left.
 use borrow.Author.Needs.{needs}
+use mathlib.Core.Path.{refl}
 use Prim.Native.Nat.{_≤_}
 use native.Mathlib.Omega.{arith}
 use lib.ListN.{length}
-use Rattle.list.proofs.moving.write_text.Statement.{statement}
-use Rattle.list.proofs.moving.write_text.Tie as tie
+use Rattle.list.proofs.moving.hand_on.Statement.{statement}
+use Rattle.list.proofs.moving.hand_on.Tie as tie
 
 abbrev Inv-loop : tie.InvT-loop
-Inv-loop text done₀ turns₀ done turns = done ≤ length text
+Inv-loop whole text done₀ turns₀ done turns = done ≤ length text
 
 abbrev μ-loop : tie.MeasureT-loop
-μ-loop text done₀ turns₀ done turns = turns
+μ-loop whole text done₀ turns₀ done turns = turns
 
 loop-holds : tie.Need-loop-holds Inv-loop μ-loop
 loop-holds c = omega arith
@@ -24,9 +26,6 @@ goes-on-requires c κs = search needs
 fail-text-requires : tie.Need-fail-text-requires Inv-loop μ-loop
 fail-text-requires c κs = search needs
 
-returns : tie.Need-returns Inv-loop μ-loop
-returns c = search needs
-
 sub-turns : tie.Need-sub-turns Inv-loop μ-loop
 sub-turns c = omega arith
 
@@ -39,11 +38,11 @@ loop-less c = omega arith
 loop-again : tie.Need-loop-again Inv-loop μ-loop
 loop-again c = omega arith
 
-returns-2 : tie.Need-returns-2 Inv-loop μ-loop
-returns-2 c = search needs
+returns : tie.Need-returns Inv-loop μ-loop
+returns c = refl
 
-pub write-text-spec : {M : Type 1} → statement M
-write-text-spec =
+pub hand-on-spec : {M : Type 1} → statement M
+hand-on-spec =
     tie.close
     (tie.spec
     Inv-loop
@@ -52,9 +51,8 @@ write-text-spec =
     write-rest-requires
     goes-on-requires
     fail-text-requires
-    returns
     sub-turns
     after-requires
     loop-less
     loop-again
-    returns-2)
+    returns)
