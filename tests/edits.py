@@ -109,7 +109,7 @@ def said(log):
         file, line, name, words, made, made_line, need = found.groups()
         if made:
             yield Said(made, int(made_line), True, None, need)
-        elif 'was not admitted (' not in words:
+        elif 'was not admitted (' not in words.partition('\n')[0]:
             yield Said(file, int(line), False, name, words)
 
 
@@ -147,7 +147,8 @@ def unshown(path, before, tried):
             if not first:
                 yield f'{fault.name}: nothing was refused{where and " in the proof of " + where}'
             elif not is_fact(first[0], changed):
-                yield f'{fault.name}: refused for another reason than a fact: {os.path.relpath(first[0].file, tried)}: {first[0].words.splitlines()[0]}'
+                sentence = first[0].words.partition('\n')[0]
+                yield f'{fault.name}: refused for another reason than a fact: {os.path.relpath(first[0].file, tried)}: {sentence}'
 
 
 def complaints(root):
