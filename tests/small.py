@@ -124,6 +124,10 @@ STATEMENTS = '''# Statements
 | `small::twice` | `r ≡ doubled x` | `twice-answer` | `twice-of-one`, `twice-of-none` |
 | `small::one` (in `more`) | `r ≡ 1` | `one-answer`, by itself | `always-two`, `always-none` |
 | `small::held` | its place | `held-answer` | `late`, `elsewhere` |
+
+| Promise | Theorem | File |
+|---|---|---|
+| what is held | `held-answer`, over `HeldPost` | `small/proofs/Answers`, `small/proofs/Posts` |
 '''
 
 PAPER = '''| Sentence | Carried by | File | Noticed by |

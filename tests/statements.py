@@ -129,6 +129,21 @@ def stated(root):
             yield f'docs/STATEMENTS.md: {crate}::{name}: fewer than two wrong programs'
 
 
+def promised(root):
+    """A theorem that docs/STATEMENTS.md has for a promise, and what it speaks of, is declared and public in a file beside it."""
+    found = [row for row in rows(open(f'{root}/docs/STATEMENTS.md').read()) if 'Theorem' in row]
+    if not found:
+        yield 'docs/STATEMENTS.md: no theorem of what is promised'
+    for row in found:
+        files = [f'{root}/crates/{place}.antt' for place in re.findall(r'`([^`]+)`', row.get('File', ''))]
+        texts = [open(path).read() for path in files if os.path.exists(path)]
+        names = re.findall(r'`([^`]+)`', row['Theorem'])
+        if not names:
+            yield f'docs/STATEMENTS.md: nothing carries: {row["Promise"]}'
+        yield from (f'docs/STATEMENTS.md: {name} is not declared in {row.get("File", "")}' for name in names
+                    if not any(re.search(rf'(?m)^\s*(?:abbrev )?pub (?:record |data )?{re.escape(name)} ', text) for text in texts))
+
+
 def stands(root, name, place):
     """Whether a name stands in a file of crates/, or is a fault of a must-fail folder."""
     if place.endswith('must-fail'):
@@ -151,7 +166,7 @@ def paper(root):
         yield 'docs/PAPER.md: no row names anything'
 
 
-GUARDS = (assumptions, contracts, stated, paper, edits.complaints)
+GUARDS = (assumptions, contracts, stated, promised, paper, edits.complaints)
 
 
 def complaints(root):
