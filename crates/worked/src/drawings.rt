@@ -50,18 +50,27 @@ pub fn reading() {
     read(&[1, 1, 0xa1, 0x1f, 0, 0, 0]);
     say::text(b"80 00");
     read(&[0x80, 0]);
+}
+
+pub fn groups() {
     say::text(b"80 80");
     read(&[0x80, 0x80]);
     say::text(b"80");
     read(&[0x80]);
     say::text(b"no bytes");
     read(&[]);
+}
+
+pub fn short_drawings() {
     say::text(b"00");
     read(&[0]);
     say::text(b"kind 5");
     read(&[1, 5]);
     say::text(b"side 5");
     read(&[1, 4, 5]);
+}
+
+pub fn after_the_last() {
     say::text(b"p equals q");
     read(&[1, 2, 3, 3, 3, 3]);
     say::text(b"a byte after the last");
@@ -91,6 +100,9 @@ pub fn writing() {
     write(&[]);
     say::text(b"write six numbers");
     write(&[4, 3, 0, 0, 0, 1]);
+}
+
+pub fn refused_writing() {
     say::text(b"write kind 9");
     write(&[9, 0, 0, 0, 0]);
     say::text(b"write a segment in four bytes");

@@ -65,12 +65,18 @@ pub fn makers() {
     say::made(Object::ray(0, -2001, 0, 0));
     say::text(b"line from the least");
     say::made(Object::line(LEAST, 0, LARGEST, 0));
+}
+
+pub fn points_and_sides() {
     say::text(b"line from p to p");
     say::made(Object::line(5, 6, 5, 6));
     say::text(b"side 3");
     say::made(Object::side(3));
     say::text(b"side 5");
     say::made(Object::side(5));
+}
+
+pub fn checks() {
     say::text(b"kind 0, kind 5, side with a fourth number, point of nothing");
     say::number(check_object(obj(0, 0, 0, 0, 0)));
     say::number(check_object(obj(5, 0, 0, 1, 1)));
@@ -95,6 +101,10 @@ pub fn ends() {
     say::ends(ends_of(obj(3, 0, 1, 2, 2)));
     say::text(b"ray 0 0 through 4 2");
     say::ends(ends_of(obj(2, 0, 0, 4, 2)));
+}
+
+// Ends that stay where they are, and the sides.
+pub fn standing_ends() {
     say::text(b"segment 1 2 to -3 4");
     say::ends(ends_of(obj(1, 1, 2, -3, 4)));
     say::text(b"side 1");
@@ -105,7 +115,7 @@ pub fn ends() {
     say::ends(ends_of(obj(1, 0, 0, 0, 2001)));
 }
 
-// Rows 5 to 7, and sides.
+// Rows 5 and 6, and which points a turn takes.
 pub fn signs() {
     say::text(b"turn of 0 0, 2 1 and row 4's point");
     say::signed(turn_points(given(0, 0), given(2, 1), pt(2, 0, 1, 2, 2)));
@@ -115,16 +125,26 @@ pub fn signs() {
     say::signed(turn_points(given(0, 0), given(2, 1), pt(0, 1, 0, 1, 5000)));
     say::text(b"turn with no point, then a wide one");
     say::signed(turn_points(given(0, 0), pt(0, 0, 0, 0, 2), pt(0, 1, 0, 1, 5000)));
+}
+
+// Row 7.
+pub fn orders() {
     say::text(b"order of -1 -R against 0 0");
     say::signed(order_points(pt(0, -1, -1, 0, 1), given(0, 0)));
     say::text(b"order of 0 0 against 1 -R");
     say::signed(order_points(given(0, 0), pt(0, 1, -1, 0, 1)));
     say::text(b"order of no point");
     say::signed(order_points(given(0, 0), pt(2, 0, 1, 0, 1)));
+}
+
+pub fn sides() {
     say::text(b"side of line 0 0 to 1 0 for 0 1");
     say::signed(side_of(obj(3, 0, 0, 1, 0), given(0, 1)));
     say::text(b"side of line 1 0 to 0 0 for 0 1");
     say::signed(side_of(obj(3, 1, 0, 0, 0), given(0, 1)));
+}
+
+pub fn frame_sides() {
     say::text(b"side of side 2 for 0 0, for a wide point, for its corner");
     say::signed(side_of(obj(4, 2, 0, 0, 0), given(0, 0)));
     say::signed(side_of(obj(4, 2, 0, 0, 0), pt(0, 63999999999, 0, 1, 32000000)));
@@ -133,7 +153,7 @@ pub fn signs() {
     say::signed(side_of(obj(9, 0, 0, 0, 0), pt(0, 0, 0, 0, 0)));
 }
 
-// Rows 8 and 9, touching, one line, and the refusals in their order.
+// Rows 8 and 9.
 pub fn crossings() {
     say::text(b"rays from 0 0 through 1 0 and through -1 0");
     say::crossing(cross(obj(2, 0, 0, 1, 0), obj(2, 0, 0, -1, 0)));
@@ -141,12 +161,20 @@ pub fn crossings() {
     say::crossing(cross(obj(3, 0, 0, 1, 1), obj(4, 3, 0, 0, 0)));
     say::text(b"line 0 0 to 1 1 with side 4");
     say::crossing(cross(obj(3, 0, 0, 1, 1), obj(4, 4, 0, 0, 0)));
+}
+
+// Touching, overlapping and apart.
+pub fn on_one_line() {
     say::text(b"segments 0 0 to 1 1 and 1 1 to 2 2");
     say::crossing(cross(obj(1, 0, 0, 1, 1), obj(1, 1, 1, 2, 2)));
     say::text(b"segments 0 0 to 2 2 and 1 1 to 3 3");
     say::crossing(cross(obj(1, 0, 0, 2, 2), obj(1, 1, 1, 3, 3)));
     say::text(b"lines 0 0 to 1 1 and 0 1 to 1 2");
     say::crossing(cross(obj(3, 0, 0, 1, 1), obj(3, 0, 1, 1, 2)));
+}
+
+// The point of document 01's listing, sides, and the refusals in their order.
+pub fn shared_points() {
     say::text(b"line 0 0 to 2 1 and segment 0 2 to 2 0");
     say::crossing(cross(obj(3, 0, 0, 2, 1), obj(1, 0, 2, 2, 0)));
     say::text(b"sides 1 and 1, 1 and 2, 1 and 3");

@@ -85,6 +85,9 @@ pub fn edges() {
     point(1, 5, -3, 0, 3);
     point(7, 0, -2, 6, 7);
     point(0, 5, 1, 0, 1);
+}
+
+pub fn corners() {
     say::text(b"corners where sides 1, 2, 3 and 4 begin");
     point(-1, 0, 1, 0, 1);
     point(-1, 0, -1, 0, 1);
@@ -97,10 +100,16 @@ pub fn every_end() {
     ends(1, 1, 2, -3, 4);
     say::text(b"ends of ray 0 1 through 3 2");
     ends(2, 0, 1, 3, 2);
+}
+
+pub fn line_ends() {
     say::text(b"ends of line 0 1 to 2 2");
     ends(3, 0, 1, 2, 2);
     say::text(b"ends of line 5 0 to 5 1");
     ends(3, 5, 0, 5, 1);
+}
+
+pub fn side_ends() {
     say::text(b"ends of sides 1, 2, 3 and 4");
     ends(4, 1, 0, 0, 0);
     ends(4, 2, 0, 0, 0);
@@ -113,6 +122,9 @@ pub fn positions() {
     if let Crossing::Once(p) = cross(obj(3, 0, 0, 2, 1), obj(1, 0, 2, 2, 0)) {
         place(p);
     }
+}
+
+pub fn points() {
     say::text(b"origin, the widest, origin twice, beyond the frame");
     point(0, 0, 0, 0, 1);
     point(0, 64_000_000_000, 0, -63_999_999_999, 32_000_000);
@@ -126,6 +138,9 @@ pub fn boxes() {
     say::text(b"box of a line and a side, of nothing");
     boxed(&[3, 100, 100, 200, 300, 4, 1, 0, 0, 0]);
     boxed(&[]);
+}
+
+pub fn refused_boxes() {
     say::text(b"box of six numbers, of p equal to q, of 513 objects");
     boxed(&[4, 3, 0, 0, 0, 1]);
     boxed(&[4, 3, 0, 0, 0, 1, 5, 6, 5, 6]);
