@@ -79,7 +79,8 @@ made : (n : ℕ) → n < 2 ^ 63 → Is R (time n) (mach n ∷ [])
 made n h = LL.owes T.the-type T′.the-laws (time n) ((refl, lit< tt), ((refl, h), tt))
 
 -- a literal that is too long for `lit`
-big : {M : Type 1} {𝓤 : URA M} {H : Heap 𝓤} {A : Atoms 𝓤} {K : Type 0} {W : Given 𝓤 H A} {Γ : List (Item 𝓤)} {E : Env 𝓤 H} → K → {w : Width} {n : ℕ} → Fits w n → Opd K W Γ E (intBig w n) (vint w n)
+big : {M : Type 1} {𝓤 : URA M} {H : Heap 𝓤} {A : Atoms 𝓤} {K : Type 0} {W : Given 𝓤 H A} {Γ : List (Item 𝓤)} {E : Env 𝓤 H} → K → {w : Width} {n : ℕ} → Fits w n
+    → Opd K W Γ E (intBig w n) (vint w n)
 big {𝓤 = 𝓤} t {w} {n} f = record { go = λ Kt h. via 𝓤 (Kt (vint w n)) h (guardI 𝓤 (Fits w n) (Kt (vint w n)) f) }
 
 module _ {M : Type 1} (𝓤 : URA M) (H : Heap 𝓤) (A : Atoms 𝓤) (at-mem : Memory → SProp 𝓤) (run : Routine → Fun 𝓤) where
@@ -117,11 +118,14 @@ module _ {M : Type 1} (𝓤 : URA M) (H : Heap 𝓤) (A : Atoms 𝓤) (W : Given
       (((α ∷ [], (β ∷ [], tt)), (fullShare, (fullShare, tt)), tt, (lent-at l γ (time nap), (lent-at l′ γ′ (time 0), tt)), (vptr l 0 ∷ [], (vptr l′ 0 ∷ [], tt))), tt)
 
   goes : (α β : ℕ) (l l′ : ℕ) (γ γ′ : GName)
-      → ent 𝓤 (⋆ 𝓤 H A (‵ (flft (α ∷ []) fullShare) ∷ ‵ (flft (β ∷ []) fullShare) ∷ ‵ (ShrRef (named 0) (α ∷ []) R .own (lent-at l γ (time nap)) (vptr l 0 ∷ [])) ∷ ‵ (MutRef (named 1) (β ∷ []) R .own (lent-at l′ γ′ (time 0)) (vptr l′ 0 ∷ [])) ∷ []))
+      → ent 𝓤 (⋆ 𝓤 H A (‵ (flft (α ∷ []) fullShare) ∷ ‵ (flft (β ∷ []) fullShare) ∷ ‵ (ShrRef (named 0) (α ∷ []) R .own (lent-at l γ (time nap))
+      (vptr l 0 ∷ [])) ∷ ‵ (MutRef (named 1) (β ∷ []) R .own (lent-at l′ γ′ (time 0)) (vptr l′ 0 ∷ [])) ∷ []))
       (Nanosleep 𝓤 H A at-mem run .pre (to-nanosleep α β l l′ γ γ′))
   goes α β l l′ γ γ′ =
-      qed W (‵ (flft (α ∷ []) fullShare) ∷ ‵ (flft (β ∷ []) fullShare) ∷ ‵ (ShrRef (named 0) (α ∷ []) R .own (lent-at l γ (time nap)) (vptr l 0 ∷ [])) ∷ ‵ (MutRef (named 1) (β ∷ []) R .own (lent-at l′ γ′ (time 0)) (vptr l′ 0 ∷ [])) ∷ []) ∵
-      nothing ! $ move ! (2 ∷ 0 ∷ []) $ join ! $ move ! (1 ∷ 0 ∷ []) $ join ! $ nothing ! $ move ! (3 ∷ 0 ∷ []) $ fjoin ! $ move ! (2 ∷ 0 ∷ []) $ fjoin ! $ move ! (1 ∷ 0 ∷ []) $ join ! $ frame ! $ done !
+      qed W (‵ (flft (α ∷ []) fullShare) ∷ ‵ (flft (β ∷ []) fullShare) ∷ ‵ (ShrRef (named 0) (α ∷ []) R .own (lent-at l γ (time nap)) (vptr l 0 ∷ []))
+      ∷ ‵ (MutRef (named 1) (β ∷ []) R .own (lent-at l′ γ′ (time 0)) (vptr l′ 0 ∷ [])) ∷ []) ∵
+      nothing ! $ move ! (2 ∷ 0 ∷ []) $ join ! $ move ! (1 ∷ 0 ∷ []) $ join ! $ nothing ! $ move ! (3 ∷ 0 ∷ []) $ fjoin ! $ move ! (2 ∷ 0 ∷ []) $ fjoin ! $
+      move ! (1 ∷ 0 ∷ []) $ join ! $ frame ! $ done !
 
   module _ (C : Calls 𝓤 H) (Λ : Loops 𝓤 H) (fm : FmC 𝓤 H (W .laws) C) (known : Triple 𝓤 (C #libc·nanosleep) (Nanosleep 𝓤 H A at-mem run)) where
     walk : ent 𝓤 (sep 𝓤 (sem 𝓤 H A ftrue) (sem 𝓤 H A ftrue)) (WpFn 𝓤 H C Λ code.function [] Post)
@@ -136,7 +140,8 @@ module _ {M : Type 1} (𝓤 : URA M) (H : Heap 𝓤) (A : Atoms 𝓤) (W : Given
         assigns ! (addr ! (from ! (stop !))) (from ! (stop !)) (init ! 0 refl (tt, tt)) $
         -- the two times are lent for α and β
         move ! (8 ∷ []) $ use1 W (‵ (partAt R fullShare (time nap) l₁ 0)) (lies nap (lit< tt) l₁) $ lft-new ! tt (λ α. move ! (1 ∷ []) $
-        use1 W (later (some (λ (γ : GName). ‵ (ShrRef (named 0) (α ∷ []) R .own (lent-at l₁ γ (time nap)) (vptr l₁ 0 ∷ [])) ⊛ ‵ (flent (α ∷ []) (partAt R fullShare (time nap) l₁ 0)))))
+        use1 W (later (some (λ (γ : GName). ‵ (ShrRef (named 0) (α ∷ []) R .own (lent-at l₁ γ (time nap)) (vptr l₁ 0 ∷ [])) ⊛ ‵ (flent (α ∷ [])
+        (partAt R fullShare (time nap) l₁ 0)))))
         (lends-shr 𝓤 H A W R (named 0) (α ∷ []) fullShare (time nap) l₁ 0) $ await ! tt $ pick ! (λ γ. split ! $
         -- [own of asked; lent; token α; _5; …; _4; …; _3; …; _2; …; (_1's end); _0; …]
         move ! (9 ∷ []) $ use1 W (‵ (partAt R fullShare (time 0) l₂ 0)) (lies 0 (lit< tt) l₂) $ lft-new ! tt (λ β. move ! (1 ∷ []) $
@@ -145,31 +150,41 @@ module _ {M : Type 1} (𝓤 : URA M) (H : Heap 𝓤) (A : Atoms 𝓤) (W : Given
         -- [own of left; lent; token β; own of asked; lent; token α; _5; …; _4; …; _3; …; dies _2; dies _1; _0; …]
         move ! (3 ∷ 0 ∷ []) $ join ! $ move ! (2 ∷ 0 ∷ []) $ join ! $ move ! (3 ∷ 0 ∷ []) $ join ! $
         use1 W (raw (Nanosleep 𝓤 H A at-mem run .pre (to-nanosleep α β l₁ l₂ γ γ′))) (goes α β l₁ l₂ γ γ′) $
-        calls-at ! fm (Nanosleep 𝓤 H A at-mem run) known (to-nanosleep α β l₁ l₂ γ γ′) (and-then ! (load ! (from ! (stop !)) (look ! 5 refl)) (and-then ! (load ! (from ! (stop !)) (look ! 3 refl)) (no-more !))) (λ v.
-        use1 W (later (some (λ (r : ℤ). ((‵ (flft (α ∷ []) fullShare) ⊛ (‵ (flft (β ∷ []) fullShare) ⊛ ‵ ftrue)) ⊛ ‵ (i32 .own r (v ∷ []))) ⊛ raw (ensured 𝓤 H A nanosleep.ended (nanosleep.clauses 𝓤 H A at-mem run) (α ∷ [], (β ∷ [], tt)) (lent-at l₁ γ (time nap), (lent-at l₂ γ′ (time 0), tt)) tt r)))) (id⊢ 𝓤 _) $ await ! tt $ pick ! (λ r.
+        calls-at ! fm (Nanosleep 𝓤 H A at-mem run) known (to-nanosleep α β l₁ l₂ γ γ′) (and-then ! (load ! (from ! (stop !)) (look ! 5 refl))
+        (and-then ! (load ! (from ! (stop !)) (look ! 3 refl)) (no-more !))) (λ v.
+        use1 W (later (some (λ (r : ℤ). ((‵ (flft (α ∷ []) fullShare) ⊛ (‵ (flft (β ∷ []) fullShare) ⊛ ‵ ftrue)) ⊛ ‵ (i32 .own r (v ∷ [])))
+        ⊛ raw (ensured 𝓤 H A nanosleep.ended (nanosleep.clauses 𝓤 H A at-mem run) (α ∷ [], (β ∷ [], tt))
+        (lent-at l₁ γ (time nap), (lent-at l₂ γ′ (time 0), tt)) tt r)))) (id⊢ 𝓤 _) $ await ! tt $ pick ! (λ r.
         split ! $ move ! (1 ∷ []) $ drop ! $ split ! $ move ! (1 ∷ []) $ peeks ! i32 (Is i32) (shows 𝓤 H A i32) r (v ∷ []) (λ is.
         -- [the result; the tokens; left's lent; asked's lent; _5; …; _4; …; room for _3; …; _2's end; _1's end; room for _0; …]
         land ! (from ! (stop !)) (init ! 8 refl (sint-lawful 𝓤 H A W w32 .typed r _ is .0)) $ drop ! $
         -- α is over, and the time asked is whole again
-        split ! $ lft-end ! tt $ move ! (0 ∷ 3 ∷ []) $ use2 W (later (‵ (partAt R fullShare (time nap) l₁ 0))) (over (α ∷ []) (partAt R fullShare (time nap) l₁ 0)) $ await ! tt $
+        split ! $ lft-end ! tt $ move ! (0 ∷ 3 ∷ []) $ use2 W (later (‵ (partAt R fullShare (time nap) l₁ 0))) (over (α ∷ [])
+        (partAt R fullShare (time nap) l₁ 0)) $ await ! tt $
         fpick ! (λ vs. fsplit ! $ spelt ! R (Is R) (shows 𝓤 H A R) (LL.vals T.the-type T′.the-laws) (LL.tells T.the-type T′.the-laws) fullShare (time nap) vs l₁ 0 $
         use1 W (‵ (fat fullShare T′.mir l₁ 0 (mach nap))) (W .laws .raw-at fullShare T′.mir l₁ 0 (mach nap)) $ move ! (1 ∷ []) $ drop ! $
         -- β is over, and so is the time left, at some value
         move ! (1 ∷ []) $ split ! $ lft-end ! tt $ move ! (0 ∷ 3 ∷ []) $ use2 W (later (‵ (Body (mem R) l₂ 0 γ′))) (over (β ∷ []) (Body (mem R) l₂ 0 γ′)) $ await ! tt $
-        fpick ! (λ z. fsplit ! $ fpick ! (λ vs′. fsplit ! $ spelt ! R (Is R) (shows 𝓤 H A R) (LL.vals T.the-type T′.the-laws) (LL.tells T.the-type T′.the-laws) fullShare z vs′ l₂ 0 $
+        fpick ! (λ z. fsplit ! $ fpick ! (λ vs′. fsplit ! $ spelt ! R (Is R) (shows 𝓤 H A R) (LL.vals T.the-type T′.the-laws)
+        (LL.tells T.the-type T′.the-laws) fullShare z vs′ l₂ 0 $
         use1 W (‵ (fat fullShare T′.mir l₂ 0 (mach-of z))) (W .laws .raw-at fullShare T′.mir l₂ 0 (mach-of z)) $
         -- [_2; what left owns; its name; true; _1; _5; …; _4; …; _3; …; _2's end; _1's end; room for _0; …]
         assigns ! (of-opd ! (unit-lit !)) (from ! (stop !)) (init ! 13 refl (tt, tt)) $
         returns ! (look ! 13 refl) $ forget ! 0 refl $ forget ! 4 refl $ forget ! 5 refl $ forget ! 7 refl $ forget ! 9 refl $ forget ! 13 refl $
-        move ! (13 ∷ 14 ∷ []) $ free1 ! $ move ! (4 ∷ 12 ∷ []) $ free1 ! $ move ! (0 ∷ 10 ∷ []) $ free1 ! $ move ! (7 ∷ 8 ∷ []) $ free1 ! $ move ! (5 ∷ 6 ∷ []) $ free1 ! $ move ! (3 ∷ 4 ∷ []) $ free1 ! $ free0 ! $
+        move ! (13 ∷ 14 ∷ []) $ free1 ! $ move ! (4 ∷ 12 ∷ []) $ free1 ! $ move ! (0 ∷ 10 ∷ []) $ free1 ! $ move ! (7 ∷ 8 ∷ []) $ free1 ! $ move ! (5 ∷ 6 ∷ []) $
+        free1 ! $ move ! (3 ∷ 4 ∷ []) $ free1 ! $ free0 ! $
         keep ! [] $ by ! exits))))))))))))))))
 
-  wait-walks : (C : Calls 𝓤 H) (Λ : Loops 𝓤 H) → FmC 𝓤 H (W .laws) C → Triple 𝓤 (C #libc·nanosleep) (Nanosleep 𝓤 H A at-mem run) → Walks 𝓤 H A wait.ended stayed (WpFn 𝓤 H C Λ code.function) (wait.clauses 𝓤 H A at-mem run)
-  wait-walks C Λ fm known = walked 𝓤 H A wait.ended stayed (wait.clauses 𝓤 H A at-mem run) (WpFn 𝓤 H C Λ code.function) (λ κs. tt) (λ κs. tt) (λ κs qs bounds a g are. via 𝓤 _ (fst∗ 𝓤 _ (emp 𝓤)) (walk C Λ fm known))
+  wait-walks : (C : Calls 𝓤 H) (Λ : Loops 𝓤 H) → FmC 𝓤 H (W .laws) C → Triple 𝓤 (C #libc·nanosleep) (Nanosleep 𝓤 H A at-mem run)
+      → Walks 𝓤 H A wait.ended stayed (WpFn 𝓤 H C Λ code.function) (wait.clauses 𝓤 H A at-mem run)
+  wait-walks C Λ fm known = walked 𝓤 H A wait.ended stayed (wait.clauses 𝓤 H A at-mem run) (WpFn 𝓤 H C Λ code.function) (λ κs. tt) (λ κs. tt)
+      (λ κs qs bounds a g are. via 𝓤 _ (fst∗ 𝓤 _ (emp 𝓤)) (walk C Λ fm known))
 
-wait-meets : {M : Type 1} (𝓤 : URA M) (H : Heap 𝓤) (A : Atoms 𝓤) → Given 𝓤 H A → (at-mem : Memory → SProp 𝓤) (run : Routine → Fun 𝓤) (𝓣 : Tables 𝓤 H) → Triple 𝓤 (𝓣 .C #libc·nanosleep) (Nanosleep 𝓤 H A at-mem run)
+wait-meets : {M : Type 1} (𝓤 : URA M) (H : Heap 𝓤) (A : Atoms 𝓤) → Given 𝓤 H A → (at-mem : Memory → SProp 𝓤) (run : Routine → Fun 𝓤) (𝓣 : Tables 𝓤 H)
+    → Triple 𝓤 (𝓣 .C #libc·nanosleep) (Nanosleep 𝓤 H A at-mem run)
     → Meets 𝓤 H A wait.signature (WpFn 𝓤 H (𝓣 .C) (𝓣 .Λ) code.function) (wait.spec 𝓤 H A at-mem run)
-wait-meets 𝓤 H A W at-mem run 𝓣 known = walk-meets 𝓤 H A wait.ended stayed W tt (wait.clauses 𝓤 H A at-mem run) (WpFn 𝓤 H (𝓣 .C) (𝓣 .Λ) code.function) (WpFn-mono 𝓤 H (W .laws) 𝓣 code.function)
+wait-meets 𝓤 H A W at-mem run 𝓣 known = walk-meets 𝓤 H A wait.ended stayed W tt (wait.clauses 𝓤 H A at-mem run) (WpFn 𝓤 H (𝓣 .C) (𝓣 .Λ) code.function)
+    (WpFn-mono 𝓤 H (W .laws) 𝓣 code.function)
     (wait-walks 𝓤 H A W at-mem run (𝓣 .C) (𝓣 .Λ) (fmOf 𝓤 H (W .laws) 𝓣) known)
 
 pub wait-spec : {M : Type 1} → stated.statement M
