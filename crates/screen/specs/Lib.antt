@@ -12,4 +12,5 @@ pub mod ExtentsLaws
 pub mod Shown
 pub mod PlaceShown
 pub mod Surrounds
+pub mod Worked
 pub mod BoxShown
