@@ -2,13 +2,12 @@
 --   reader-gives   "gives one object per call": call number k gives object number k of the drawing; behind the last one every call gives
 --                  the end, or the refusal
 --   reader-stays   and the reader holds the lent bytes all the time
-use mathlib.Core.Path.{_≡_, refl, sym, ap, _∙_}
+use mathlib.Core.Path.{_≡_, ap, _∙_}
 use mathlib.Core.List.{List}
 use Prim.Native.Nat.{ℕ, suc}
 use contract.Lifetimes.{Lfts}
 use denote.Ref.{RefT}
 use denote.Triple.Clauses.{AtExit}
-use Rattle.store.specs.declared.Item.{Item}
 use Rattle.store.specs.declared.Reader.{Reader}
 use Rattle.store.specs.declared.Taken.{Taken}
 use Rattle.store.specs.Stored.{readDrawing}
