@@ -1,5 +1,5 @@
 """How programs are built and run: the kit compiles for x86-64, and its emulator runs them elsewhere."""
-import os, platform, shutil, subprocess
+import contextlib, fcntl, os, platform, shutil, subprocess
 
 COMPILER = 'x86_64-linux-gnu-gcc'
 
@@ -29,18 +29,34 @@ def newest():
     return max(written(os.path.join(folder, name)) for folder, _, names in os.walk('crates') for name in names)
 
 
+@contextlib.contextmanager
+def alone(what):
+    """Tests run side by side, and no two do this at a time."""
+    with open(f'target/{what}.lock', 'w') as lock:
+        fcntl.flock(lock, fcntl.LOCK_EX)
+        yield
+
+
+def compiler():
+    """The compiler, installed where that is needed and can be done."""
+    package = 'gcc' if platform.machine() == 'x86_64' else 'gcc-x86-64-linux-gnu'
+    with alone('compiler'):
+        subprocess.run(['bash', '-euc', f'. tests/need; need {COMPILER} "" {package}'], check=True)
+    return COMPILER
+
+
 def archive(name):
     """The static library of a crate, made where no file of a crate is newer, and a compiler to link with it."""
-    package = 'gcc' if platform.machine() == 'x86_64' else 'gcc-x86-64-linux-gnu'
-    subprocess.run(['bash', '-euc', f'. tests/need; need {COMPILER} "" {package}'], check=True)
+    compiler()
     library = f'target/staticlib/lib{name}.a'
-    if written(library) <= newest():
-        subprocess.run(['rt', 'staticlib', name], check=True, stdout=subprocess.DEVNULL, stderr=subprocess.DEVNULL)
+    with alone(name):
+        if written(library) <= newest():
+            subprocess.run(['rt', 'staticlib', name], check=True, stdout=subprocess.DEVNULL, stderr=subprocess.DEVNULL)
     return library
 
 
 def driver(name):
     """A C program of tests/ that calls the crate `measure`; the command that runs it."""
     library, program = archive('measure'), f'target/{name}'
-    subprocess.run([COMPILER, '-O2', '-Wall', '-Wextra', '-static', f'tests/{name}.c', library, '-o', program], check=True)
+    subprocess.run([compiler(), '-O2', '-Wall', '-Wextra', '-static', f'tests/{name}.c', library, '-o', program], check=True)
     return runner() + [program]

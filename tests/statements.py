@@ -10,7 +10,7 @@ def assumptions(root):
     a library that stands on one of the kit's would take over what that assumes, without a word in its own verdict."""
     crates = source.crates(root)
     for crate, below in crates.items():
-        folder, log = f'{root}/crates/{crate}', f'{root}/target/log/{crate}.say'
+        folder, log = f'{root}/crates/{crate}', f'{root}/target/ci/{crate}.say'
         verdicts = re.findall(r'(?m)^logic=proved .*$', open(log).read()) if os.path.exists(log) else []
         if len(verdicts) != 1:
             yield f'{crate}: its log has no verdict'

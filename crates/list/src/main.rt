@@ -178,7 +178,7 @@ fn say_drawing(taken: bool, bytes: &[u8], got: usize) -> u8
     let refusal = read.refusal;
     let headed = say_head(taken);
     if !headed {
-        return UNWRITTEN;
+        return status(headed, refusal);
     }
     if refusal != 0 {
         return status(say_refused(headed, refusal), refusal);

@@ -1,7 +1,6 @@
 -- `say_drawing` prints only where all before it went, and answers the status of what was read, or that something did not go.
 use borrow.Author.Needs.{needs}
 use mathlib.Core.Path.{_≡_, refl, ap, _∙_}
-use mathlib.Core.Logic.{inl}
 use lib.IntN.{ℤ}
 use lib.ListN.{take}
 use mir.Syntax.{w64}
@@ -39,17 +38,20 @@ read-drawing-requires c κs = search needs
 say-head-requires : tie.Need-say-head-requires
 say-head-requires c κs = c .before .before .before .before .before .before .pre .0
 
+status-requires : tie.Need-status-requires
+status-requires c κs = search needs
+
 returns : tie.Need-returns
-returns c = inl refl
+returns c = tells (c .before .before .say-head .result) _ _ (c .status .result) (seen (c .before .before .before)) (c .status .ensures)
 
 say-refused-requires : tie.Need-say-refused-requires
 say-refused-requires c κs = kept _ (c .before .if1 .left)
 
-status-requires : tie.Need-status-requires
-status-requires c κs = search needs
+status-requires-2 : tie.Need-status-requires-2
+status-requires-2 c κs = search needs
 
 returns-2 : tie.Need-returns-2
-returns-2 c = tells (c .before .say-refused .result) _ _ (c .status .result) (seen (c .before .before .before .before .before)) (c .status .ensures)
+returns-2 c = tells (c .before .say-refused .result) _ _ (c .status2 .result) (seen (c .before .before .before .before .before)) (c .status2 .ensures)
 
 slice-aggregate-of-numbers : tie.Need-slice-aggregate-of-numbers
 slice-aggregate-of-numbers c = search needs
@@ -66,11 +68,11 @@ slice-aggregate-say-listing c = search needs
 say-listing-requires : tie.Need-say-listing-requires
 say-listing-requires c κs = kept _ (c .before .before .before .before .if1 .left)
 
-status-requires-2 : tie.Need-status-requires-2
-status-requires-2 c κs = search needs
+status-requires-3 : tie.Need-status-requires-3
+status-requires-3 c κs = search needs
 
 returns-3 : tie.Need-returns-3
-returns-3 c = tells (c .before .say-listing .result) _ _ (c .status2 .result) (seen (c .before .before .before .before .before .before .before .before)) (c .status2 .ensures)
+returns-3 c = tells (c .before .say-listing .result) _ _ (c .status3 .result) (seen (c .before .before .before .before .before .before .before .before)) (c .status3 .ensures)
 
 pub say-drawing-spec : {M : Type 1} → statement M
 say-drawing-spec =
@@ -80,14 +82,15 @@ say-drawing-spec =
     slice-aggregate-read-drawing-2
     read-drawing-requires
     say-head-requires
+    status-requires
     returns
     say-refused-requires
-    status-requires
+    status-requires-2
     returns-2
     slice-aggregate-of-numbers
     of-numbers-requires
     array-share-prefix-list
     slice-aggregate-say-listing
     say-listing-requires
-    status-requires-2
+    status-requires-3
     returns-3)
