@@ -43,6 +43,9 @@ pub record Example : Type 0 where
   many : rowText (pos 3 ∷ pos 4 ∷ pos 2 ∷ pos 0 ∷ pos 0 ∷ pos 0 ∷ pos 0 ∷ pos 0 ∷ []) ≡ 51 ∷ 32 ∷ 52 ∷ 32 ∷ 109 ∷ 97 ∷ 110 ∷ 121 ∷ 10 ∷ []
   -- no rows; `rows 0`
   none : (rowsText [] ≡ []) × (countLine rowsWord (pos 0) ≡ 114 ∷ 111 ∷ 119 ∷ 115 ∷ 32 ∷ 48 ∷ 10 ∷ [])
+  -- 9, 10, 99, 100
+  digits-of :
+      (signed (pos 9) ≡ 57 ∷ []) × (signed (pos 10) ≡ 49 ∷ 48 ∷ []) × (signed (pos 99) ≡ 57 ∷ 57 ∷ []) × (signed (pos 100) ≡ 49 ∷ 48 ∷ 48 ∷ [])
   -- -1206
   below : signed (negsuc 1205) ≡ 45 ∷ 49 ∷ 50 ∷ 48 ∷ 54 ∷ []
   -- "14: list length not a multiple of" eight, "then 10", which "alone also returns the length needed"
@@ -64,6 +67,7 @@ example = record {
   refused = refl;
   many = refl;
   none = (refl, refl);
+  digits-of = (refl, refl, refl, refl);
   below = refl;
   no-rows = (refl, refl, refl);
   room = refl;

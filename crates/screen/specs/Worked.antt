@@ -1,12 +1,113 @@
--- The bound of a place's floats, worked out at 1/1 and at 0: "it is shown to meet |P w - n Q| times 2^53 at most |n| Q, and zero gives +0".
--- A bound with another power of 2 is refused here, whatever the code does.
+-- Places, boxes and the bound of their floats, worked out by document 01's words. A definition that says something else is refused here,
+-- whatever the code does.
 use mathlib.Core.Path.{_≡_, refl, ap}
 use mathlib.Core.Bool.{Bool, true, false, true≢false}
+use mathlib.Core.List.{List, [], _∷_}
 use lib.Dec.{le→leb, lit≤, lit<}
 use lib.Ieee.{Float, nan, inf, fin}
-use lib.IntN.{pos, negsuc}
+use lib.IntN.{ℤ, pos, negsuc}
 use Rattle.whole.specs.Tests.{eqZ-false}
-use Rattle.screen.specs.Quotient.{zero+, Near}
+use Rattle.sheet.specs.Figure.{Vec, figure}
+use Rattle.sheet.specs.Points.{standard}
+use Rattle.sheet.specs.Cases.{minus, point, at, segment, ray, line, side}
+use Rattle.screen.specs.declared.Place.the-variants as place
+use Rattle.screen.specs.declared.Boxed.the-variants as boxed
+use Rattle.screen.specs.Told.{Told}
+use Rattle.screen.specs.Quotient.{zero+, float, quotient, Near}
+use Rattle.screen.specs.Places.{placeSays, sideWhere, placeOf}
+use Rattle.screen.specs.Extents.{endsOf, farthest, extreme, extentOf, extentSays, boxedSays}
+
+-- ---- places
+
+-- 0, x and y; 0, the side number and the slope: each float as n and w, which are divided
+abbrev position : ℤ → ℤ → ℤ → Told
+position x y w = record { wholes = pos 0 ∷ []; floats = quotient x w ∷ quotient y w ∷ [] }
+
+abbrev edge : ℤ → ℤ → ℤ → Told
+edge n m w = record { wholes = pos 0 ∷ n ∷ []; floats = quotient m w ∷ [] }
+
+pub record WorkedPlaces : Type 0 where
+  -- "A standard point gives nx/w and ny/w"
+  positions :
+      (placeOf (point (pos 0) (pos 3) (pos 0) (minus 7) (pos 2)) ≡ position (pos 3) (minus 7) (pos 2))
+      × (placeOf (at (pos 5) (pos 0)) ≡ position (pos 5) (pos 0) (pos 1))
+  -- "a frame point gives its side and m/w of the coordinate along that side": on the left, the bottom, the right, the top
+  edges :
+      (placeOf (point (minus 5) (pos 0) (pos 2) (pos 3) (pos 5)) ≡ edge (pos 1) (pos 2) (pos 5))
+      × (placeOf (point (pos 1) (pos 4) (minus 3) (pos 0) (pos 3)) ≡ edge (pos 2) (pos 1) (pos 3))
+      × (placeOf (point (pos 7) (pos 0) (minus 2) (pos 6) (pos 7)) ≡ edge (pos 3) (minus 2) (pos 7))
+      × (placeOf (point (minus 1) (pos 5) (pos 2) (pos 0) (pos 2)) ≡ edge (pos 4) (minus 1) (pos 2))
+  -- "A corner goes to the side that begins there"; beside the corners it does not
+  corners :
+      (placeOf (point (minus 1) (pos 0) (pos 1) (pos 0) (pos 1)) ≡ edge (pos 1) (pos 1) (pos 1))
+      × (placeOf (point (minus 1) (pos 0) (minus 1) (pos 0) (pos 1)) ≡ edge (pos 2) (minus 1) (pos 1))
+      × (placeOf (point (pos 1) (pos 0) (minus 1) (pos 0) (pos 1)) ≡ edge (pos 3) (minus 1) (pos 1))
+      × (placeOf (point (pos 1) (pos 0) (pos 1) (pos 0) (pos 1)) ≡ edge (pos 4) (pos 1) (pos 1))
+  beside-the-corners :
+      (placeOf (point (minus 1) (pos 0) (minus 1) (pos 7) (pos 1)) ≡ edge (pos 1) (minus 1) (pos 1))
+      × (placeOf (point (pos 1) (minus 7) (minus 1) (pos 0) (pos 1)) ≡ edge (pos 2) (pos 1) (pos 1))
+      × (placeOf (point (pos 1) (pos 0) (pos 1) (minus 7) (pos 1)) ≡ edge (pos 3) (pos 1) (pos 1))
+      × (placeOf (point (minus 1) (pos 7) (pos 1) (pos 0) (pos 1)) ≡ edge (pos 4) (minus 1) (pos 1))
+  said :
+      (placeSays (place.At (float (pos 3)) (float (pos 4))) ≡ record { wholes = pos 0 ∷ []; floats = float (pos 3) ∷ float (pos 4) ∷ [] })
+      × (placeSays (place.Edge (pos 2) zero+) ≡ record { wholes = pos 0 ∷ pos 2 ∷ []; floats = zero+ ∷ [] })
+      × (placeSays (place.Refused (pos 5)) ≡ record { wholes = pos 5 ∷ []; floats = [] })
+
+pub worked-places : WorkedPlaces
+unfolding standard sideWhere placeOf
+worked-places = record {
+  positions = (refl, refl);
+  edges = (refl, refl, refl, refl);
+  corners = (refl, refl, refl, refl);
+  beside-the-corners = (refl, refl, refl, refl);
+  said = (refl, refl, refl);
+}
+
+-- ---- boxes
+
+abbrev vec : ℤ → ℤ → Vec
+vec x y = record { x = x; y = y }
+
+-- a segment from (1, 2) to (-3, 4) and a ray from (7, -8) through (9, 10); a line and a side have no standard end
+abbrev theirEnds : List Vec
+theirEnds =
+    endsOf (segment (pos 1) (pos 2) (minus 3) (pos 4) ∷ line (pos 0) (pos 0) (minus 9) (minus 9) ∷ side (pos 4)
+    ∷ ray (pos 7) (minus 8) (pos 9) (pos 10) ∷ [])
+
+pub record WorkedBox : Type 0 where
+  standard-ends : theirEnds ≡ vec (pos 1) (pos 2) ∷ vec (minus 3) (pos 4) ∷ vec (pos 7) (minus 8) ∷ []
+  -- "lowest and highest x and y over its standard ends"
+  lowest-and-highest :
+      extentOf theirEnds
+      ≡ record {
+        low = record { x = float (minus 3); y = float (minus 8) };
+        high = record { x = float (pos 7); y = float (pos 4) };
+        none = false;
+      }
+  -- "with none, all four are +0 and a flag says so"
+  around-none :
+      extentOf []
+      ≡ record {
+        low = record { x = float (pos 0); y = float (pos 0) };
+        high = record { x = float (pos 0); y = float (pos 0) };
+        none = true;
+      }
+  said :
+      (boxedSays (boxed.Around (extentOf [])) .wholes ≡ pos 0 ∷ pos 1 ∷ [])
+      × (boxedSays (boxed.Around (extentOf theirEnds))
+      ≡ record { wholes = pos 0 ∷ pos 0 ∷ []; floats = float (minus 3) ∷ float (minus 8) ∷ float (pos 7) ∷ float (pos 4) ∷ [] })
+      × (boxedSays (boxed.Refused (pos 14)) ≡ record { wholes = pos 14 ∷ []; floats = [] })
+
+pub worked-box : WorkedBox
+unfolding figure endsOf farthest extreme
+worked-box = record {
+  standard-ends = refl;
+  lowest-and-highest = refl;
+  around-none = refl;
+  said = (refl, refl, refl);
+}
+
+-- ---- the bound: "it is shown to meet |P w - n Q| times 2^53 at most |n| Q, and zero gives +0", at 1/1 and at 0
 
 -- 1; the float below it, 1 - 2^-53; the float above it, 1 + 2^-52
 abbrev one : Float

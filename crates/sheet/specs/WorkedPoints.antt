@@ -32,6 +32,11 @@ pub record WorkedPoints : Type 0 where
   origin : pointRefusal (at (pos 0) (pos 0)) ≡ pos 0
   divisor-left-in :
       refusals (inside (pos 0) (pos 0) (pos 2) ∷ inside (pos 2) (pos 4) (pos 6) ∷ onRight (pos 3) (pos 6) (pos 3) ∷ []) ≡ pos 5 ∷ pos 5 ∷ pos 5 ∷ []
+  -- all but one of the five are even: nx, ny, w, my, ny, mx, nx
+  divisor-of-all-five :
+      refusals (inside (pos 1) (pos 2) (pos 2) ∷ inside (pos 2) (pos 1) (pos 2) ∷ inside (pos 2) (pos 2) (pos 1) ∷ onRight (pos 1) (pos 2) (pos 2)
+      ∷ onRight (pos 2) (minus 1) (pos 2) ∷ onTop (pos 1) (pos 2) (pos 2) ∷ onTop (pos 2) (minus 1) (pos 2) ∷ [])
+      ≡ pos 0 ∷ pos 0 ∷ pos 0 ∷ pos 0 ∷ pos 0 ∷ pos 0 ∷ pos 0 ∷ []
   w-not-above-0 :
       refusals (inside (pos 1) (pos 0) (pos 0) ∷ inside (pos 1) (pos 0) (minus 1) ∷ onRight (pos 0) (pos 0) (minus 1) ∷ []) ≡ pos 5 ∷ pos 5 ∷ pos 5 ∷ []
   -- "Standard: mx = my = 0, w at most 32,000,000, nx and ny within 64,000,000,000 either way."
@@ -91,6 +96,7 @@ unfolding sgn steps gcd gcdOf standard narrow frame isPoint pointRefusal
 worked-points = record {
   origin = refl;
   divisor-left-in = refl;
+  divisor-of-all-five = refl;
   w-not-above-0 = refl;
   standard-w = refl;
   standard-nx = refl;

@@ -9,8 +9,8 @@ use Rattle.sheet.specs.Cases.{side}
 use Rattle.store.specs.declared.Place.{Place}
 use Rattle.store.specs.declared.Item.{Item}
 use Rattle.store.specs.declared.Item.the-variants.{One, End, Refused}
-use Rattle.store.specs.Stored.{readGroups, readCoordinate, readSide, readPoint, readTo, readPair, readShape, readObject, readCount}
-use Rattle.store.specs.Reader.{startPlace, stepFrom, stepOf, callFrom, itemSays}
+use Rattle.store.specs.Stored.{readGroups, readCoordinate, readSide, readPoint, readTo, readPair, readShape, readObject, readObjects, readCount, readDrawing}
+use Rattle.store.specs.Reader.{startPlace, stepFrom, stepOf, callFrom, itemOf, itemSays}
 
 -- what the first four calls give
 abbrev fourCalls : List ℕ → List Item
@@ -40,13 +40,17 @@ pub record WorkedReader : Type 0 where
       (stepOf twoSides startPlace .place ≡ record { begun = true; left = 1; at = 3 })
       × (stepOf twoSides (record { begun = true; left = 1; at = 3 }) .place ≡ afterBoth) × (stepOf twoSides afterBoth .place ≡ afterBoth)
   place-kept : (stepOf [] startPlace .place ≡ startPlace) × (stepOf (0 ∷ []) startPlace .place ≡ startPlace)
+  -- a drawing's objects in order, then its end or its refusal
+  items :
+      (map (itemOf (readDrawing twoSides)) (0 ∷ 1 ∷ 2 ∷ 3 ∷ []) ≡ One (side (pos 1)) ∷ One (side (pos 2)) ∷ End ∷ End ∷ [])
+      × (map (itemOf (readDrawing (2 ∷ 4 ∷ 1 ∷ 4 ∷ 5 ∷ []))) (0 ∷ 1 ∷ 2 ∷ []) ≡ One (side (pos 1)) ∷ Refused (pos 4) ∷ Refused (pos 4) ∷ [])
   -- an object is told by 0 and its numbers, a refusal by its own alone
   said :
       (itemSays (One (side (pos 3))) ≡ pos 0 ∷ pos 4 ∷ pos 3 ∷ pos 0 ∷ pos 0 ∷ pos 0 ∷ []) × (itemSays End ≡ [])
       × (itemSays (Refused (pos 9)) ≡ pos 9 ∷ [])
 
 pub worked-reader : WorkedReader
-unfolding readGroups readCoordinate readSide readPoint readTo readPair readShape readObject readCount stepFrom stepOf callFrom
+unfolding readGroups readCoordinate readSide readPoint readTo readPair readShape readObject readObjects readCount readDrawing stepFrom stepOf callFrom itemOf
 worked-reader = record {
   one-a-call = refl;
   none-at-all = refl;
@@ -57,5 +61,6 @@ worked-reader = record {
   too-large-a-count = refl;
   places = (refl, refl, refl);
   place-kept = (refl, refl);
+  items = (refl, refl);
   said = (refl, refl, refl);
 }

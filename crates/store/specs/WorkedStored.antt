@@ -71,6 +71,10 @@ pub record WorkedStored : Type 0 where
   three-after-qy :
       (ofOne (1 ∷ 3 ∷ 3 ∷ 3 ∷ []) ≡ pos 7) × (ofOne (1 ∷ 3 ∷ 3 ∷ 3 ∷ 131 ∷ 0 ∷ []) ≡ pos 8) × (ofOne (1 ∷ 3 ∷ 3 ∷ 3 ∷ 161 ∷ 31 ∷ []) ≡ pos 2)
       × (refusal (2 ∷ 1 ∷ 3 ∷ 3 ∷ 3 ∷ 3 ∷ 5 ∷ []) ≡ pos 3)
+  -- and only where both coordinates are equal: (0, 1) and (1, 1), (1, 0) and (1, 1), (1, 1) and (0, 1), (1, 1) and (1, 0)
+  three-by-both :
+      (ofOne (1 ∷ 0 ∷ 2 ∷ 2 ∷ 2 ∷ []) ≡ pos 0) × (ofOne (1 ∷ 2 ∷ 0 ∷ 2 ∷ 2 ∷ []) ≡ pos 0) × (ofOne (1 ∷ 2 ∷ 2 ∷ 0 ∷ 2 ∷ []) ≡ pos 0)
+      × (ofOne (1 ∷ 2 ∷ 2 ∷ 2 ∷ 0 ∷ []) ≡ pos 0)
   object-by-object : (refusal (2 ∷ 4 ∷ 5 ∷ 9 ∷ []) ≡ pos 4) × (refusal (2 ∷ 9 ∷ 4 ∷ 5 ∷ []) ≡ pos 1) × (refusal (2 ∷ 4 ∷ 1 ∷ 9 ∷ []) ≡ pos 1)
   -- "9: bytes after the last object": "with 9 after the last object"
   bytes-after : (refusal (0 ∷ 0 ∷ []) ≡ pos 9) × (refusal (twoSides ++ (128 ∷ [])) ≡ pos 9)
@@ -112,6 +116,7 @@ worked-stored = record {
   coordinate-at-the-limit = (refl, refl);
   side-checked = (refl, refl, refl, refl);
   three-after-qy = (refl, refl, refl, refl);
+  three-by-both = (refl, refl, refl, refl);
   object-by-object = (refl, refl, refl);
   bytes-after = (refl, refl);
   nine-after-the-last = (refl, refl);
