@@ -1,9 +1,9 @@
 """The wrong programs of crates/*/must-fail, and whether a fact refused each.
 
 An edit file has faults of functions, one under each line `fault: NAME in FUNCTION`, with the function's folder under proofs/; or, without
-such a line, one fault of a definition, of a limit or of a contract, named as the file is. The prover goes on after an error and judges each
-function by its own proof, against the contracts of what it calls. So a fault in a body, or in a contract that no caller uses, shows in that
-function's proof and in no other.
+such a line, one fault of a definition or of a limit, named as the file is. The prover goes on after an error and judges each function by its
+own proof, against the contracts of what it calls. So a fault in a body shows in that function's proof and in no other, and a fault in a
+contract there and in the proofs of those that call it, which then have no fault of their own in the file.
 """
 import collections, glob, os, re
 import source
@@ -68,11 +68,18 @@ def named_functions(fault):
 
 
 def functions_at(file, at, files):
-    """The function in whose body a place is, or in whose contract, where nothing in src/ calls it."""
-    every = '\n'.join(source.plain(text) for name, text in files.items() if name.endswith('.rt'))
+    """The function in whose body or contract a place is, and whether it is the contract."""
     for one in source.functions_of(file, files[file]) if file.endswith('.rt') else []:
-        if one.body and (one.body[0] < at < one.body[1] or one.at < at < one.body[0] and not re.search(rf'(?<!fn )\b{one.name}\s*\(', every)):
-            yield one.path
+        if one.body and one.at < at < one.body[1]:
+            yield one, at < one.body[0]
+
+
+def callers(called, files):
+    """The functions that may call this one: its name stands in their bodies."""
+    for file, text in files.items():
+        for one in source.functions_of(file, text) if file.endswith('.rt') else []:
+            if one.body and re.search(rf'\b{called.name}\s*\(', source.plain(text)[one.body[0]:one.body[1]]):
+                yield one.path
 
 
 def apply(path, files):
@@ -88,6 +95,7 @@ def apply(path, files):
     every = [one for fault in found for one in fault.functions]
     for one in sorted({one for one in every if every.count(one) > 1}):
         yield f'two faults of {one}'
+    judged = {one for fault in found for one in named_functions(fault)}
     for fault in found:
         changed, outside = set(), False
         for file, old, new in fault.changes:
@@ -95,8 +103,12 @@ def apply(path, files):
             if not old or text.count(old) != 1:
                 yield f'{fault.name}: its old text does not stand once in {file}'
                 continue
-            inside = set(functions_at(file, text.index(old), files))
-            changed |= inside
+            inside = list(functions_at(file, text.index(old), files))
+            for one, contract in inside:
+                changed.add(one.path)
+                if contract:
+                    yield from (f'{fault.name}: {caller} calls {one.path}, whose contract is changed' for caller in callers(one, files)
+                                if caller in judged - {one.path})
             outside |= not inside
             files[file] = text.replace(old, new)
         if fault.functions and (outside or changed != set(named_functions(fault))):
