@@ -20,12 +20,7 @@ fn read(bytes: &[u8]) {
     say::count(read.count as u64);
     say::count(read.length as u64);
     say::text(b" cells");
-    say::number(list[0]);
-    say::number(list[1]);
-    say::number(list[2]);
-    say::number(list[3]);
-    say::number(list[4]);
-    say::number(list[5]);
+    say::numbers(&list);
     say::end();
 }
 

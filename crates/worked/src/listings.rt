@@ -6,20 +6,12 @@ const UNTOUCHED: i64 = 7;
 
 const ROOM: usize = 9;
 
-fn answer(listed: Listed, rows: &[i64; ROOM]) {
+fn answer(listed: Listed, rows: &[i64]) {
     say::number(listed.refusal);
     say::count(listed.rows as u64);
     say::count(listed.length as u64);
     say::text(b" cells");
-    say::number(rows[0]);
-    say::number(rows[1]);
-    say::number(rows[2]);
-    say::number(rows[3]);
-    say::number(rows[4]);
-    say::number(rows[5]);
-    say::number(rows[6]);
-    say::number(rows[7]);
-    say::number(rows[8]);
+    say::numbers(rows);
     say::end();
 }
 

@@ -19,6 +19,14 @@ pub fn number(n: i64) {
     io::print_decimal(1, whole::size(n));
 }
 
+pub fn numbers(list: &[i64]) {
+    let mut i: usize = 0;
+    while i < list.len() {
+        number(list[i]);
+        i += 1;
+    }
+}
+
 pub fn count(n: u64) {
     text(b" ");
     io::print_decimal(1, n);
