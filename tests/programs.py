@@ -8,9 +8,18 @@ def kit():
     return os.path.dirname(os.path.dirname(os.path.realpath(shutil.which('rt'))))
 
 
+def tools():
+    return f'{kit()}/on/{platform.machine()}/toolchain'
+
+
+def emulator():
+    """What a program of C, linked with all it needs, runs under; nothing where the machine is its own."""
+    return [] if platform.machine() == 'x86_64' else [f'{tools()}/bin/qemu-x86_64']
+
+
 def runner():
-    machine = platform.machine()
-    return [] if machine == 'x86_64' else [f'{kit()}/on/{machine}/toolchain/bin/qemu-x86_64']
+    """What a program of the kit runs under: elsewhere it finds no loader and no C library but the kit's."""
+    return emulator() and [*emulator(), f'{tools()}/lib/ld-linux-x86-64.so.2', '--library-path', f'{tools()}/lib']
 
 
 def run(name, data):
@@ -59,4 +68,4 @@ def driver(name):
     """A C program of tests/ that calls the crate `measure`; the command that runs it."""
     library, program = archive('measure'), f'target/{name}'
     subprocess.run([compiler(), '-O2', '-Wall', '-Wextra', '-static', f'tests/{name}.c', library, '-o', program], check=True)
-    return runner() + [program]
+    return emulator() + [program]
