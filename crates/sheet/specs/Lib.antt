@@ -1,6 +1,7 @@
 pub mod Limits
 pub mod Figure
 pub mod Refusal
+pub mod RefusalTable
 pub mod Points
 pub mod Ends
 pub mod Signs
@@ -18,6 +19,7 @@ pub mod SignsLaws
 pub mod ReversedLaws
 pub mod InsideLaws
 pub mod AcceptsLaws
+pub mod RefusalTableLaws
 pub mod OnLine
 pub mod CrossingLaws
 pub mod ListsLaws

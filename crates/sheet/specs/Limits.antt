@@ -14,11 +14,17 @@ abbrev pub most : ℕ
 most = 512
 
 -- "Standard: .. w at most 32,000,000, nx and ny within 64,000,000,000 either way"
+abbrev pub standardWSize : ℕ
+standardWSize = 32000000
+
 abbrev pub standardW : ℤ
-standardW = pos 32000000
+standardW = pos standardWSize
+
+abbrev pub standardNSize : ℕ
+standardNSize = 64000000000
 
 abbrev pub standardN : ℤ
-standardN = pos 64000000000
+standardN = pos standardNSize
 
 -- "Frame: w at most 4,000. .. Each n is within 8,000,000 either way", and the same for narrow points
 abbrev pub frameW : ℤ

@@ -27,6 +27,7 @@ use Rattle.whole.specs.Flag.{eqZ}
 use Rattle.whole.specs.Divisor.{DividesAll, none, _also_}
 use Rattle.whole.specs.DivisorLaws.{gcdOf-is, gcdOf-above, over-back, over-one, same-numbers}
 use Rattle.sheet.specs.declared.Point.{Point}
+use Rattle.sheet.specs.Limits.{standardWSize, standardNSize}
 use Rattle.sheet.specs.Points.{numbers, divisor, divided, size, standard, edge, inSquare, narrow, frame, isPoint}
 use Rattle.sheet.specs.Flags.{both, either, eqb-is, flags}
 use Rattle.sheet.specs.AnswersLaws.{point-one}
@@ -92,9 +93,9 @@ pub record Narrow (p : Point) : Type 0 where
 pub record Standard (p : Point) : Type 0 where
   pub no-mx : p .mx ≡ pos 0
   pub no-my : p .my ≡ pos 0
-  pub in-w : Upto 32000000 (p .w)
-  pub in-nx : Within 64000000000 (p .nx)
-  pub in-ny : Within 64000000000 (p .ny)
+  pub in-w : Upto standardWSize (p .w)
+  pub in-nx : Within standardNSize (p .nx)
+  pub in-ny : Within standardNSize (p .ny)
 
 -- "exactly R or -R (|m| = w and n = 0)"
 pub record OnEdge (m n w : ℤ) : Type 0 where
@@ -294,10 +295,10 @@ standard-divided {p} s =
 
 pub record Sizes (p : Point) : Type 0 where
   pub in-mx : Within 4000 (p .mx)
-  pub in-nx : Within 64000000000 (p .nx)
+  pub in-nx : Within standardNSize (p .nx)
   pub in-my : Within 4000 (p .my)
-  pub in-ny : Within 64000000000 (p .ny)
-  pub in-w : Upto 32000000 (p .w)
+  pub in-ny : Within standardNSize (p .ny)
+  pub in-w : Upto standardWSize (p .w)
 
 pub square-within : {k : ℕ} {m n w : ℤ} → InSquare m n w → Within k w → Within k m
 square-within {k} {m} s h = record { within = leb→le (natAbs m) k (go s h .le) }

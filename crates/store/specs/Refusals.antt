@@ -1,12 +1,6 @@
 -- The refusals that stored bytes can meet. Definitions alone; SureLaws proves it of each reading.
-use mathlib.Core.Bool.{Bool, false, _||_}
 use mathlib.Core.List.{List, [], _∷_}
 use Prim.Native.Nat.{ℕ}
-use lib.Dec.{eqb}
-
-abbrev pub among : ℕ → List ℕ → Bool
-among n [] = false
-among n (m ∷ ms) = eqb n m || among n ms
 
 -- kind, coordinate, p equals q, side number; bytes that end, a number's groups, bytes after the last object, more than 512
 abbrev pub ofBytes : List ℕ

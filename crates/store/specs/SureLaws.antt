@@ -15,8 +15,9 @@ use Rattle.whole.specs.Flag.{eqZ}
 use Rattle.sheet.specs.Figure.{Vec}
 use Rattle.sheet.specs.Limits.{most}
 use Rattle.sheet.specs.Refusal.{outside, beyond, equal, pairRefusal, sideRefusal, objectRefusal, Accepted}
+use Rattle.sheet.specs.RefusalTable.{among}
 use Rattle.store.specs.Stored.{group, Reading, got, no, next, checked, pairOf, readGroups, readNumber, unzigzag, readCoordinate, readPoint, readSide, readTo, readPair, readShape, readObject, readCount}
-use Rattle.store.specs.Refusals.{among, ofBytes}
+use Rattle.store.specs.Refusals.{ofBytes}
 
 pub data Sure {A : Type 0} (P : A → Type 0) (bs : List ℕ) : Reading A → Type 0 where
   read : (a : A) (front rest : List ℕ) → bs ≡ front ++ rest → P a → Sure P bs (got a rest)

@@ -1,20 +1,14 @@
 -- What the calls can answer at all: which refusals, and that a refusal is no sign. Definitions alone; AnsweredLaws proves them of the calls.
 use mathlib.Core.Path.{_≡_}
-use mathlib.Core.Bool.{true}
 use mathlib.Core.List.{List, _∷_}
 use Prim.Native.Nat.{ℕ}
 use lib.IntN.{ℤ, pos, _+ℤ_}
 use Rattle.whole.specs.Bound.{Within}
+use Rattle.sheet.specs.RefusalTable.{OneOf}
 use Rattle.sheet.specs.Signs.{sideSign}
 use Rattle.store.specs.Stored.{Drawing}
-use Rattle.store.specs.Refusals.{among, ofBytes}
+use Rattle.store.specs.Refusals.{ofBytes}
 use Rattle.viewer.specs.Calls.{object, whole, callRefusal}
-
--- one of the numbers
-pub record OneOf (ms : List ℕ) (z : ℤ) : Type 0 where
-  pub number : ℕ
-  pub is : z ≡ pos number
-  pub one : among number ms ≡ true
 
 -- the refusals of a side: those of the bytes, and the index; that of the point, 2, is among them
 abbrev pub ofSide : List ℕ

@@ -16,6 +16,8 @@ use Rattle.whole.specs.Bound.{Within}
 use Rattle.whole.specs.Flag.{eqZ}
 use Rattle.whole.specs.Tests.{eqZ-true, eqZ-false, cond-by}
 use Rattle.sheet.specs.Refusal.{beyond, objectRefusal}
+use Rattle.sheet.specs.RefusalTable.{OneOf}
+use Rattle.sheet.specs.RefusalTableLaws.{one-of, one-more, split}
 use Rattle.sheet.specs.Signs.{orElse, sideSign, sideSignRefusal}
 use Rattle.sheet.specs.SignsLaws.{side-sign-within}
 use Rattle.sheet.specs.AnswersLaws.{or-zero}
@@ -25,8 +27,8 @@ use Rattle.sheet.specs.Flags.{cond-zero}
 use Rattle.store.specs.Stored.{Drawing, readDrawing}
 use Rattle.store.specs.Refusals.{ofBytes}
 use Rattle.viewer.specs.Calls.{checkAnswer, object, whole, indexRefusal, placeRefusal, callRefusal, sideIn, sideAnswer}
-use Rattle.viewer.specs.Answered.{OneOf, ofSide, Answered, a-sign, a-refusal}
-use Rattle.viewer.specs.ReadingLaws.{one-of, one-more, split, bytes-refusal, good}
+use Rattle.viewer.specs.Answered.{ofSide, Answered, a-sign, a-refusal}
+use Rattle.viewer.specs.ReadingLaws.{bytes-refusal, good}
 use Rattle.viewer.specs.CallsLaws.{side-taken}
 
 -- "0 or the refusal"

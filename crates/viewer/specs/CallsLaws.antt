@@ -28,6 +28,8 @@ use Rattle.sheet.specs.Signs.{sideSign, sideSignRefusal}
 use Rattle.sheet.specs.Lists.{width, countOf, objectAt}
 use Rattle.sheet.specs.ListsLaws.{Listable}
 use Rattle.sheet.specs.Flags.{both, neither, either, flags}
+use Rattle.sheet.specs.RefusalTable.{OneOf}
+use Rattle.sheet.specs.RefusalTableLaws.{split}
 use Rattle.sheet.specs.RefusalLaws.{Small}
 use Rattle.sheet.specs.PointsLaws.{point-is}
 use Rattle.sheet.specs.EndsLaws.{given-fine}
@@ -37,8 +39,7 @@ use Rattle.store.specs.Stored.{Drawing, readDrawing}
 use Rattle.store.specs.Reader.{stepOf, callFrom, endOf, itemOf}
 use Rattle.store.specs.Refusals.{ofBytes}
 use Rattle.viewer.specs.Calls.{object, whole, indexRefusal, placeRefusal, signOr, sideIn}
-use Rattle.viewer.specs.Answered.{OneOf}
-use Rattle.viewer.specs.ReadingLaws.{split, bytes-refusal}
+use Rattle.viewer.specs.ReadingLaws.{bytes-refusal}
 
 pub call-more : (bs : List ℕ) (p : Place) (k : ℕ) → 0 < k → callFrom bs p k ≡ callFrom bs (stepOf bs p .place) (k - 1)
 unfolding callFrom

@@ -2,16 +2,13 @@
 --   bytes-refusal   the refusal of stored bytes is 0 or one of the table's that they can meet
 --   item-accepted   every object of a drawing is accepted
 --   good            an accepted drawing has whole objects, at most 512, each accepted
---   one-of, one-more, split   one of some numbers; of one number more; the first of them, or one of the others
 -- Assumes nothing.
-use mathlib.Core.Path.{_≡_, refl, ap, subst, _∙_}
-use mathlib.Core.Logic.{_⊎_, inl, inr}
-use mathlib.Core.Bool.{true}
+use mathlib.Core.Path.{_≡_, refl, subst}
 use mathlib.Core.List.{List, [], _∷_, _++_}
 use Prim.Native.Nat.{ℕ, zero, suc, _*_, _<_, _≤_}
 use native.Mathlib.Omega.{arith}
-use borrow.Author.Tests.{eqb-true, ltb-true}
-use lib.Dec.{ltb, eqb}
+use borrow.Author.Tests.{ltb-true}
+use lib.Dec.{ltb}
 use lib.IntN.{ℤ, pos}
 use lib.ListN.{length}
 use Rattle.whole.specs.Flag.{eqZ}
@@ -19,38 +16,20 @@ use Rattle.whole.specs.Tests.{cond-by, eqZ-false}
 use Rattle.sheet.specs.declared.Object.{Object}
 use Rattle.sheet.specs.Limits.{most}
 use Rattle.sheet.specs.Refusal.{Accepted}
+use Rattle.sheet.specs.RefusalTable.{OneOf}
+use Rattle.sheet.specs.RefusalTableLaws.{one-of, one-more}
 use Rattle.sheet.specs.Answers.{objectNumbers}
 use Rattle.sheet.specs.Lists.{width, objectAt}
 use Rattle.sheet.specs.ListsLaws.{Listable, object-next}
-use Rattle.sheet.specs.Flags.{either}
 use Rattle.store.specs.declared.Item.{Item}
 use Rattle.store.specs.declared.Item.the-variants.{One, End, Refused}
 use Rattle.store.specs.Stored.{Reading, Drawing, before, andThen, counted}
 use Rattle.store.specs.Stored.{readObjects, readDrawing}
 use Rattle.store.specs.Reader.{itemOf}
 use Rattle.store.specs.ObjectsLaws.{objects-length}
-use Rattle.store.specs.Refusals.{among, ofBytes}
+use Rattle.store.specs.Refusals.{ofBytes}
 use Rattle.store.specs.SureLaws.{Sure, not-nought, sure-object, sure-count}
 use Rattle.store.specs.SureLaws as sure
-use Rattle.viewer.specs.Answered.{OneOf}
-
--- ---- one of some numbers
-
-pub one-of : {ms : List ℕ} (n : ℕ) → among n ms ≡ true → OneOf ms (pos n)
-one-of n e = record { number = n; is = refl; one = e }
-
-pub one-more : {m : ℕ} {ms : List ℕ} {z : ℤ} → OneOf ms z → OneOf (m ∷ ms) z
-one-more {m} {ms} o = record { number = o .number; is = o .is; one = either (eqb (o .number) m) (among (o .number) ms) .1 (inr (o .one)) }
-
--- the first of the numbers, or one of the others
-pub split : {m : ℕ} {ms : List ℕ} {z : ℤ} → OneOf (m ∷ ms) z → (z ≡ pos m) ⊎ OneOf ms z
-split {m} {ms} {z} o = go (either (eqb (o .number) m) (among (o .number) ms) .0 (o .one))
-  where
-    go : (eqb (o .number) m ≡ true) ⊎ (among (o .number) ms ≡ true) → (z ≡ pos m) ⊎ OneOf ms z
-    go (inl e) = inl (o .is ∙ ap pos (eqb-true (o .number) m e))
-    go (inr e) = inr (record { number = o .number; is = o .is; one = e })
-
--- ---- drawings
 
 -- the refusal is 0 or one of stored bytes, and every object is accepted
 record Sound (d : Drawing) : Type 0 where
