@@ -36,7 +36,7 @@ enum silvanelga_refusal {
     SILVANELGA_BYTES_AFTER = 9,    /* * bytes after the last object */
     SILVANELGA_NO_ROOM = 10,       /*   the lent list or byte buffer is too short for the result */
     SILVANELGA_TOO_MANY = 11,      /* * more than 512 objects */
-    SILVANELGA_POINT_LIMITS = 12,  /*   a crossing's reduced numbers are outside the limits for points */
+    /* 12 was a refusal of earlier builds, and is not used again */
     SILVANELGA_NO_OBJECT = 13,     /* * object index below 0 or not below the count (silvanelga_side alone) */
     SILVANELGA_LIST_LENGTH = 14    /*   list length not a multiple of five */
 };

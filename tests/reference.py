@@ -1,5 +1,5 @@
-"""Document 01 once more, in exact fractions and with no formula of the kernel: objects are cut at a concrete R and intersected as
-ordinary closed segments; what holds for every R is read off two R. Used by the programs of tests/ to compare with."""
+"""Document 01 once more, as document 02 changes it, in exact fractions and with no formula of the kernel: objects are cut at a concrete R
+and intersected as ordinary closed segments; what holds for every R is read off two R. Used by the programs of tests/ to compare with."""
 from fractions import Fraction
 from math import gcd
 
@@ -8,6 +8,7 @@ WIDTH, ROW = 5, 8                               # numbers of an object in a list
 WIDEST, FAR = 32_000_000, 64_000_000_000        # w and n of a standard point
 NARROW, NEAR = 4_000, 8_000_000                 # w and n of a frame point
 FRAMES = (2 * 10**18, 3 * 10**18 + 7)
+REFUSALS = (*range(1, 12), 13, 14)              # the numbers that say no; 12 is taken out, and not used again
 
 
 class Refused(Exception):
@@ -192,7 +193,11 @@ def crossing(a, b, pieces):
     found = [share(pieces[a][k], pieces[b][k]) for k in (0, 1)]
     kinds = [x if x in (None, 'many') else 'point' for x in found]
     assert kinds[0] == kinds[1], 'the two frames disagree'
-    return numbers(found) if kinds[0] == 'point' else found[0]
+    if kinds[0] != 'point':
+        return found[0]
+    point = numbers(found)
+    assert refusal(point_refusals(*point)) == 0, f'a crossing outside the limits for points: {point}'
+    return point
 
 
 def rows(objects):

@@ -37,8 +37,20 @@ def chain(rng, most):
     return made
 
 
+def wide(rng, most):
+    """Coordinates beside the limit: the points have the largest numbers that there are, where two lie nearly along the two diagonals, or
+    nearly along two opposite edges."""
+    def beside(sign):
+        return sign * (reference.REACH - rng.choice((0, 0, 1, 2)))
+    made = []
+    for _ in range(rng.randint(2, most)):
+        px, py, qx, qy = (beside(rng.choice((-1, 1))) for _ in range(4))
+        made.append((rng.choice((1, 2, 3, 3)), px, py, qx, qy if (px, py) != (qx, qy) else -qy))
+    return made + [(4, rng.randint(1, 4), 0, 0, 0)]
+
+
 def sheet(rng):
-    which = rng.randrange(6)
+    which = rng.randrange(7)
     if which == 0:
         return objects(rng, 2, (1, 2, 3), 10)
     if which == 1:
@@ -49,6 +61,8 @@ def sheet(rng):
         return diagonal(rng, 6)
     if which == 4:
         return chain(rng, 9)
+    if which == 5:
+        return wide(rng, 8)
     return objects(rng, 40, (3, 4), 8)
 
 

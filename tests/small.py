@@ -1,5 +1,6 @@
 """A small repository in which every guard is content: a library `small` with a public function, another it calls, one whose proof is walked
-by hand and one whose proof the toolchain made, and a program `tell` over it. Nothing here is proved; the logs are as the prover writes them."""
+by hand and one whose proof the toolchain made, what is said of all its calls, and a program `tell` over it. Nothing here is proved; the logs
+are as the prover writes them."""
 import os, shutil
 
 LIB = '''// A small library.
@@ -135,11 +136,22 @@ PAPER = '''| Sentence | Carried by | File | Noticed by |
 | Twice | `doubled`; the edit `twice-of-one` is refused | `small/specs/Small`, `small/must-fail` | `worked` |
 '''
 
+CALLS = '''use Rattle.small.proofs.twice.Reads as twice
+use Rattle.small.proofs.more.one.Reads as one
+use Rattle.small.proofs.Posts.{HeldPost}
+
+pub record Calls (P : ℕ → Type 0) : Type 0 where
+  pub of-twice : (x r : ℕ) → twice.Post x r → P r
+  pub of-one :
+      (r : ℕ) → one.Post r → P r
+  pub of-held : (r : Held) → HeldPost r → P (r .place)
+'''
+
 PROVED = 'fn small::twice: proved\nlogic=proved functions=5 sum=0 native=nat,char,string\n'
 TOLD = 'fn tell::main: proved\naxioms libc: libc::write (1 of the 50 declared)\nlogic=proved functions=1 axioms=1 sum=0\n'
 
 FILES = {
-    'crates.txt': '# NAME: what it stands on\nsmall:\ntell: small io libc\n',
+    'crates.txt': '# NAME: what it stands on\nsmall:\nrefusals: small\ntell: small io libc\n',
     'crates/small/src/lib.rt': LIB,
     'crates/small/src/more.rt': MORE,
     'crates/small/src/inner.rt': INNER,
@@ -153,10 +165,13 @@ FILES = {
     'crates/small/must-fail/faults-2.edit': MORE_FAULTS,
     'crates/small/must-fail/late.edit': LATE,
     'crates/small/must-fail/elsewhere.edit': ELSEWHERE,
+    'crates/refusals/src/lib.rt': '// Specs only.\n',
+    'crates/refusals/specs/Calls.antt': CALLS,
     'crates/tell/src/main.rt': 'fn main() {\n    small::twice(1);\n}\n',
     'docs/STATEMENTS.md': STATEMENTS,
     'docs/PAPER.md': PAPER,
     'target/ci/small.say': PROVED,
+    'target/ci/refusals.say': 'logic=proved functions=0 sum=0\n',
     'target/ci/tell.say': TOLD,
     'target/must-fail/small/faults-1/.log': TWICE_FACT + SUM_FACT + ONE_FACT + REFUSED,
     'target/must-fail/small/faults-2/.log': TWICE_FACT + ONE_FACT + REFUSED,

@@ -3,6 +3,8 @@ import glob, os, re
 import edits, source
 
 EQUAL, SHUT_OUT = 'Two answers are equal', 'Shut out'
+CALLS = 'crates/refusals/specs/Calls.antt'
+UNREFUSED = {('whole', 'sign'), ('whole', 'size'), ('whole', 'gcd'), ('store', 'start'), ('store', 'open_reader')}  # these never refuse
 
 
 def assumptions(root):
@@ -129,6 +131,21 @@ def stated(root):
             yield f'docs/STATEMENTS.md: {crate}::{name}: fewer than two wrong programs'
 
 
+def refusing(root):
+    """Every public function that can refuse has a line in the record of all calls: it speaks of the function's own contract, by `Post` of its
+    `Reads`, or by a definition of its crate's proofs/."""
+    text = open(f'{root}/{CALLS}').read() if os.path.exists(f'{root}/{CALLS}') else ''
+    lines = ' '.join(kind for name, (kind, _) in declared(text).items() if name.startswith('of-'))
+    spoken = {part for part in re.split(r'[\s(){},;]+', lines)}
+    found = {(crate, place.replace('.', '/')) for crate, place, alias in re.findall(r'(?m)^use Rattle·(\w+)\.proofs\.(\S+)\.Reads as (\S+)$', text)
+             if f'{alias}.Post' in spoken}
+    found |= {(crate, path) for crate, place, brought in re.findall(r'(?m)^use Rattle·(\w+)\.proofs\.([^\s{]+)\.\{([^}]*)\}', text)
+              for word in re.split(r',\s*', brought) if word in spoken for path in contracts_named(f'{root}/crates/{crate}', crate, place.replace('.', '/'), word)}
+    for crate in source.crates(root):
+        yield from (f'{crate}::{one.name} has no line in {CALLS}' for one in (source.public(f'{root}/crates/{crate}') if source.is_library(root, crate) else [])
+                    if (crate, one.path) not in UNREFUSED | found)
+
+
 def promised(root):
     """A theorem that docs/STATEMENTS.md has for a promise, and what it speaks of, is declared and public in a file beside it."""
     found = [row for row in rows(open(f'{root}/docs/STATEMENTS.md').read()) if 'Theorem' in row]
@@ -166,7 +183,7 @@ def paper(root):
         yield 'docs/PAPER.md: no row names anything'
 
 
-GUARDS = (assumptions, contracts, stated, promised, paper, edits.complaints)
+GUARDS = (assumptions, contracts, stated, refusing, promised, paper, edits.complaints)
 
 
 def complaints(root):

@@ -22,9 +22,8 @@ use Rattle.sheet.specs.Ends.{firstEnd, lastEnd}
 use Rattle.sheet.specs.Signs.{order, turn, sideSign, orderRefusal, turnRefusal, sideSignRefusal}
 use Rattle.sheet.specs.Answers.{answer, endsSay, signedSays, meetingNumbers, crossingSays}
 use Rattle.sheet.specs.AnswersLaws.{accepted, refused, ends-one, signed-one, crossing-one}
-use Rattle.sheet.specs.AcceptsLaws.{order-taken, turn-taken, side-taken, cross-taken}
+use Rattle.sheet.specs.AcceptsLaws.{order-taken, turn-taken, side-taken, cross-taken, taken-cross}
 use Rattle.sheet.specs.Crossing.{Meeting, none, point, many, crossingOf, crossingRefusal}
-use Rattle.sheet.specs.CrossingLaws.{crossing-refusal}
 use Rattle.cut.specs.Claims.{EndsHold, CrossingHolds, DemandAt}
 use Rattle.cut.specs.Demand.{demand-3}
 use Rattle.kernel.proofs.ends.ends_of.Reads as ends-of
@@ -149,7 +148,7 @@ module _ (R : ℤ) (d : DemandAt R) where
       (cross-refused refl)
 
 cross-exactly : {R : ℤ} {a b : Object} {r : Crossing} → Accepted a → Accepted b → CrossSaid R a b r → Exactly R a b r
-cross-exactly s t (cross-refused e n) = absurd (n (e ∙ crossing-refusal s t))
+cross-exactly s t (cross-refused e n) = absurd (n (e ∙ taken-cross s t))
 cross-exactly s t (cross-given z h) = h
 
 -- ---- the demand

@@ -39,7 +39,7 @@ fn meet(
     cross_pieces(ka, px, py, qx, qy, kb, rx, ry, sx, sy)
 }
 
-// What two objects share. Refusal 12 needs no test: the point of two accepted objects is always within the limits.
+// What two objects share. The first one's refusal comes first, then the second's.
 pub fn cross(a: Object, b: Object) -> Crossing
     ensures { λ r. ⌜ crossingSays r ≡ answer (crossingRefusal a b) (meetingNumbers (crossingOf a b)) ⌝ }
 {

@@ -6,9 +6,9 @@ use Prim.Native.Nat.{ℕ, _+_, _-_}
 use lib.Dec.{ltb}
 use lib.IntN.{ℤ, pos}
 use Rattle.sheet.specs.Points.{numbers}
-use Rattle.sheet.specs.Crossing.{Meeting, none, point, many, crossingOf, limitsRefusal}
+use Rattle.sheet.specs.Crossing.{Meeting, none, point, many, crossingOf}
 use Rattle.listing.specs.InTurn.{allOf, sumOf}
-use Rattle.sheet.specs.Lists.{countOf, objectAt, firstRefusal}
+use Rattle.sheet.specs.Lists.{countOf, objectAt}
 
 -- what objects i and j of a list share
 unfoldable pub meetingOf : List ℤ → ℕ → ℕ → Meeting
@@ -52,11 +52,3 @@ sharingWith l i = sumOf (λ j. pairCount l i j) (countOf l)
 
 abbrev pub sharing : List ℤ → ℕ
 sharing l = sumOf (λ i. sharingWith l i) (countOf l)
-
--- ---- "12: a crossing's reduced numbers are outside the limits for points": the first pair's, by i and then j
-
-abbrev pub limitsWith : List ℤ → ℕ → ℤ
-limitsWith l i = firstRefusal (λ k. limitsRefusal (meetingOf l i (i + 1 + k))) (laterOf l i)
-
-abbrev pub limitsOf : List ℤ → ℤ
-limitsOf l = firstRefusal (λ i. limitsWith l i) (countOf l)

@@ -6,7 +6,6 @@
 --   square-most, square-least                     the square of a count fits, and is not less than it
 --   row-most, rows-with-most, rows-most           how long rows can be
 --   length-rows-with, length-rows   the rows are as many as the pairs that share something
---   limits-with, limits-all   refusal 12 is not given
 -- Assumes nothing.
 use mathlib.Core.Path.{_≡_, refl, sym, ap, _∙_}
 use mathlib.Core.Bool.{cond}
@@ -23,13 +22,12 @@ use Rattle.sheet.specs.Limits.{most}
 use Rattle.sheet.specs.Points.{numbers}
 use Rattle.sheet.specs.Answers.{crossingSays, meetingNumbers}
 use Rattle.sheet.specs.AnswersLaws.{point-one}
-use Rattle.sheet.specs.Crossing.{Meeting, none, point, many, limitsRefusal}
-use Rattle.sheet.specs.CrossingLaws.{crossing-limits}
+use Rattle.sheet.specs.Crossing.{Meeting, none, point, many}
 use Rattle.listing.specs.InTurn.{inTurn, allOf, sumOf}
 use Rattle.listing.specs.InTurnLaws.{turn-more, length-grows, length-most, length-sum, length-below, sum-shift, sum-none, sum-later}
 use Rattle.sheet.specs.Lists.{rowWidth, countOf}
-use Rattle.sheet.specs.ListsLaws.{Listable, first-none}
-use Rattle.listing.specs.Rows.{meetingOf, rowBy, rowOf, laterOf, rowsWith, rowsOf, isSome, pairCount, sharingWith, sharing, limitsWith, limitsOf}
+use Rattle.sheet.specs.ListsLaws.{Listable}
+use Rattle.listing.specs.Rows.{meetingOf, rowBy, rowOf, laterOf, rowsWith, rowsOf, isSome, pairCount, sharingWith, sharing}
 
 -- ---- the square of a count
 
@@ -152,17 +150,3 @@ module _ (l : List ℤ) where
       let h = length-below (λ i. rowsWith l i) (λ i. laterOf l i) rowWidth (countOf l) (λ i. rows-with-most l i) in
       let e = sum-later (countOf l) in
       omega arith
-
--- ---- "12" is never given
-
-module _ (l : List ℤ) (h : Listable l) where
-  limits-pair : (i j : ℕ) → i < countOf l → j < countOf l → limitsRefusal (meetingOf l i j) ≡ pos 0
-  unfolding meetingOf
-  limits-pair i j a b = crossing-limits (h .each i a) (h .each j b)
-
-  pub limits-with : (i : ℕ) → i < countOf l → limitsWith l i ≡ pos 0
-  limits-with i a =
-      first-none (λ k. limitsRefusal (meetingOf l i (i + 1 + k))) (laterOf l i) (λ k b. limits-pair i (i + 1 + k) a (omega arith))
-
-  pub limits-all : limitsOf l ≡ pos 0
-  limits-all = first-none (λ i. limitsWith l i) (countOf l) (λ i a. limits-with i a)

@@ -9,7 +9,7 @@ use Rattle.whole.specs.Sign.{sgn}
 use Rattle.whole.specs.Divisor.{steps, gcd, gcdOf}
 use Rattle.sheet.specs.Figure.{sideOf, figure}
 use Rattle.sheet.specs.Refusal.{pairRefusal, sideRefusal, objectRefusal}
-use Rattle.sheet.specs.Points.{divided, narrow, standard, frame, isPoint}
+use Rattle.sheet.specs.Points.{divided}
 use Rattle.sheet.specs.Ends.{farRaw, farEnd}
 use Rattle.sheet.specs.Crossing.{pieces, withSide, withPiece, meeting, crossingOf}
 use Rattle.sheet.specs.Answers.{objectNumbers}
@@ -18,7 +18,7 @@ use Rattle.sheet.specs.Lists.{firstRefusal, listRefusal}
 use Rattle.sheet.specs.Cases.{minus, object, segment, ray, line, side}
 use Rattle.listing.specs.InTurn.{inTurn}
 use Rattle.listing.specs.Rows.{meetingOf, rowsWith, rowsOf, sharingWith, sharing}
-use Rattle.listing.specs.Listing.{allRefusal, oneRefusal, listed}
+use Rattle.listing.specs.Listing.{oneRefusal, listed}
 
 -- a line from (0,0) toward (2,1), a segment from (0,2) to (2,0) and side 3
 abbrev objects : List ℤ
@@ -28,7 +28,7 @@ objects =
     ∷ pos 4 ∷ pos 3 ∷ pos 0 ∷ pos 0 ∷ pos 0 ∷ []
 
 pub record WorkedListing : Type 0 where
-  not-refused : allRefusal objects ≡ pos 0
+  not-refused : listRefusal objects ≡ pos 0
   -- "0 1 point 0 4 0 2 3", "0 2 point 2 0 1 0 2"
   two-rows :
       rowsOf objects
@@ -38,7 +38,7 @@ pub record WorkedListing : Type 0 where
   two-pairs : sharing objects ≡ 2
 
 pub worked-listing : WorkedListing
-unfolding inTurn firstRefusal listRefusal meetingOf pairRefusal sideRefusal objectRefusal pieces withSide withPiece meeting crossingOf sgn steps gcd gcdOf sideOf figure divided farRaw farEnd narrow standard frame isPoint
+unfolding inTurn firstRefusal listRefusal meetingOf pairRefusal sideRefusal objectRefusal pieces withSide withPiece meeting crossingOf sgn steps gcd gcdOf sideOf figure divided farRaw farEnd
 worked-listing = record {
   not-refused = refl;
   two-rows = refl;
@@ -78,10 +78,10 @@ pub record WorkedListed : Type 0 where
   -- one object with all later ones
   rows-of-one : (rowsWith three 0 ≡ manyRow ++ pointRow (pos 0) (pos 2)) × (rowsWith three 1 ≡ pointRow (pos 1) (pos 2)) × (rowsWith three 2 ≡ [])
   pairs : (sharing three ≡ 3) × (sharingWith three 0 ≡ 2) × (sharingWith three 1 ≡ 1) × (sharingWith three 2 ≡ 0)
-  -- "A list: 14, 11, each object in turn, 12, then 10."
-  in-turn : (allRefusal (noKind ++ tooFar) ≡ pos 1) × (allRefusal (tooFar ++ noKind) ≡ pos 2)
-  eleven-before-objects : allRefusal (tooFar ++ lent 2560) ≡ pos 11
-  fourteen-before-eleven : allRefusal (tooFar ++ lent 2561) ≡ pos 14
+  -- "A list: 14, 11, each object in turn, .. then 10."
+  in-turn : (listRefusal (noKind ++ tooFar) ≡ pos 1) × (listRefusal (tooFar ++ noKind) ≡ pos 2)
+  eleven-before-objects : listRefusal (tooFar ++ lent 2560) ≡ pos 11
+  fourteen-before-eleven : listRefusal (tooFar ++ lent 2561) ≡ pos 14
   -- of one object: the list's own, then 13
   index : (oneRefusal three 2 ≡ pos 0) × (oneRefusal three 3 ≡ pos 13) × (oneRefusal (noKind ++ tooFar) 9 ≡ pos 1)
   -- the number, how many rows, and the length: "A refused call returns its number with every other number 0 .. Refusal 10 alone also
@@ -93,11 +93,11 @@ pub record WorkedListed : Type 0 where
       × (listed (pos 1) 2 99 ≡ record { refusal = pos 1; rows = 0; length = 0 })
   no-rows : listed (pos 0) 0 0 ≡ record { refusal = pos 0; rows = 0; length = 0 }
   -- "Rows stand at the front of the lent list."
-  at-the-front : filled (allRefusal three) (rowsOf three) (lent 26) ≡ rowsOf three ++ lent 2
-  unchanged : (filled (allRefusal three) (rowsOf three) (lent 23) ≡ lent 23) × (filled (allRefusal tooFar) (rowsOf tooFar) (lent 26) ≡ lent 26)
+  at-the-front : filled (listRefusal three) (rowsOf three) (lent 26) ≡ rowsOf three ++ lent 2
+  unchanged : (filled (listRefusal three) (rowsOf three) (lent 23) ≡ lent 23) × (filled (listRefusal tooFar) (rowsOf tooFar) (lent 26) ≡ lent 26)
 
 pub worked-listed : WorkedListed
-unfolding inTurn firstRefusal listRefusal meetingOf pairRefusal sideRefusal objectRefusal pieces withSide withPiece meeting crossingOf sgn steps gcd gcdOf sideOf figure divided farRaw farEnd narrow standard frame isPoint
+unfolding inTurn firstRefusal listRefusal meetingOf pairRefusal sideRefusal objectRefusal pieces withSide withPiece meeting crossingOf sgn steps gcd gcdOf sideOf figure divided farRaw farEnd
 worked-listed = record {
   by-i-and-then-j = refl;
   many-row = refl;

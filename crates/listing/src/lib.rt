@@ -15,9 +15,9 @@ ghost use Prim.Native.Nat.{_/_};
 ghost use lib.IntN.{pos};
 ghost use lib.ListN.{length};
 ghost use Rattle.sheet.specs.Lent.{filled};
-ghost use Rattle.sheet.specs.Lists.{rowWidth};
+ghost use Rattle.sheet.specs.Lists.{rowWidth, listRefusal};
 ghost use Rattle.listing.specs.Rows.{rowsWith, rowsOf, sharingWith, sharing};
-ghost use Rattle.listing.specs.Listing.{allRefusal, oneRefusal, listed};
+ghost use Rattle.listing.specs.Listing.{oneRefusal, listed};
 
 // What a listing answers: 0, how many rows, and how many numbers they are; or a refusal with 0 and 0, refusal 10 with the length needed.
 pub struct Listed {
@@ -66,8 +66,8 @@ pub fn list_one(list: &[i64], i: usize, out: &mut [i64]) -> Listed
 
 // The rows of all pairs, by i and then j, at the front of a lent list.
 pub fn list_all(list: &[i64], out: &mut [i64]) -> Listed
-    ensures answer { λ r. ⌜ r ≡ listed (allRefusal (now (list .entry))) (sharing (now (list .entry))) (length (now (out .entry))) ⌝ }
-    ensures rows { λ r. ⌜ now (out .exit) ≡ filled (allRefusal (now (list .entry))) (rowsOf (now (list .entry))) (now (out .entry)) ⌝ }
+    ensures answer { λ r. ⌜ r ≡ listed (listRefusal (now (list .entry))) (sharing (now (list .entry))) (length (now (out .entry))) ⌝ }
+    ensures rows { λ r. ⌜ now (out .exit) ≡ filled (listRefusal (now (list .entry))) (rowsOf (now (list .entry))) (now (out .entry)) ⌝ }
 {
     let no = list_refusal(list);
     if no != 0 {

@@ -3,8 +3,8 @@ use sheet::Object;
 use sheet::lists::list_refusal;
 ghost use mathlib.Core.Path.{_≡_};
 ghost use Prim.Native.Nat.{_<_};
-ghost use Rattle.sheet.specs.Signs.{orElse};
-ghost use Rattle.sheet.specs.Lists.{countOf, objectAt, listRefusal, indexRefusal};
+ghost use Rattle.sheet.specs.Lists.{countOf, objectAt};
+ghost use Rattle.listing.specs.Listing.{oneRefusal};
 
 // Object i of a list, the only place of the listing that reads one.
 pub fn object_at(list: &[i64], i: usize) -> Object
@@ -23,7 +23,7 @@ pub fn object_at(list: &[i64], i: usize) -> Object
 
 // The refusal of a list, and then of an index, 13; 0 for none.
 pub fn index_refusal(list: &[i64], i: usize) -> i64
-    ensures { λ r. ⌜ r ≡ orElse (listRefusal (now (list .entry))) (indexRefusal (now (list .entry)) i) ⌝ }
+    ensures { λ r. ⌜ r ≡ oneRefusal (now (list .entry)) i ⌝ }
 {
     let no = list_refusal(list);
     if no != 0 {

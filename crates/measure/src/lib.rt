@@ -6,7 +6,8 @@ ghost use mathlib.Core.Path.{_≡_};
 ghost use lib.ListN.{length};
 ghost use Rattle.listing.specs.Rows.{rowsOf, sharing};
 ghost use Rattle.sheet.specs.Lent.{filled};
-ghost use Rattle.listing.specs.Listing.{allRefusal, listed};
+ghost use Rattle.sheet.specs.Lists.{listRefusal};
+ghost use Rattle.listing.specs.Listing.{listed};
 ghost use Rattle.store.specs.Stored.{readDrawing};
 ghost use Rattle.store.specs.Answers.{readAnswer, readInto, writeAnswer, writeInto};
 ghost use Rattle.measure.specs.Numbers.{placeShown, boxShown};
@@ -24,8 +25,8 @@ pub struct Shown {
 
 #[no_mangle]
 pub extern "C" fn silvanelga_measure_list(list: &[i64], rows: &mut [i64]) -> i64
-    ensures { λ r. ⌜ r ≡ listed (allRefusal (now (list .entry))) (sharing (now (list .entry))) (length (now (rows .entry))) .refusal ⌝ }
-    ensures { λ r. ⌜ now (rows .exit) ≡ filled (allRefusal (now (list .entry))) (rowsOf (now (list .entry))) (now (rows .entry)) ⌝ }
+    ensures { λ r. ⌜ r ≡ listed (listRefusal (now (list .entry))) (sharing (now (list .entry))) (length (now (rows .entry))) .refusal ⌝ }
+    ensures { λ r. ⌜ now (rows .exit) ≡ filled (listRefusal (now (list .entry))) (rowsOf (now (list .entry))) (now (rows .entry)) ⌝ }
 {
     let list_refusal = listing::list_all(list, rows).refusal;
     list_refusal

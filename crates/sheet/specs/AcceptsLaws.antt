@@ -1,6 +1,7 @@
 -- What holds of numbers that are not refused. To cite:
 --   point-taken                              a refusal of 0 says that it is a point
 --   order-taken, turn-taken, side-taken, cross-taken   the same of two points, of three narrow points, of an object with a point, of two objects
+--   taken-cross                              two objects that are accepted are not refused
 -- Assumes nothing.
 use mathlib.Core.Path.{_≡_, refl, ap}
 use mathlib.Core.Bool.{Bool, true, false, cond, _&&_}
@@ -51,6 +52,9 @@ side-taken o s h =
 pub cross-taken : (a b : Object) → crossingRefusal a b ≡ pos 0 → Accepted a × Accepted b
 unfolding crossingRefusal
 cross-taken a b h =
-    let f = or-zero (objectRefusal a) _ h in
-    let g = or-zero (objectRefusal b) _ (f .1) in
-    (record { accepted = f .0 }, record { accepted = g .0 })
+    let f = or-zero (objectRefusal a) (objectRefusal b) h in
+    (record { accepted = f .0 }, record { accepted = f .1 })
+
+pub taken-cross : {a b : Object} → Accepted a → Accepted b → crossingRefusal a b ≡ pos 0
+unfolding crossingRefusal
+taken-cross h k = simp (h .accepted, k .accepted)

@@ -14,7 +14,12 @@ use Rattle.sheet.specs.declared.Signed.the-variants as signed
 use Rattle.sheet.specs.declared.Crossing.{Crossing}
 use Rattle.sheet.specs.declared.Crossing.the-variants as crossing
 use Rattle.sheet.specs.Points.{numbers}
+use Rattle.sheet.specs.Lists.{number}
 use Rattle.sheet.specs.Crossing.{Meeting, none, point, many}
+
+-- what an answer refuses by: the first of its numbers
+abbrev pub refusalIn : List ℤ → ℤ
+refusalIn l = number l 0
 
 -- the values where the number is 0, else the number
 abbrev pub answer : ℤ → List ℤ → List ℤ

@@ -8,7 +8,7 @@ use Rattle.sheet.specs.declared.Object.{Object}
 use Rattle.sheet.specs.declared.Point.{Point}
 use Rattle.sheet.specs.Figure.{Vec, _⇀_, Side, outX, outY, Figure, segment, ray, line, side, figure}
 use Rattle.sheet.specs.Refusal.{objectRefusal}
-use Rattle.sheet.specs.Points.{size, given, divided, isPoint}
+use Rattle.sheet.specs.Points.{size, given, divided}
 use Rattle.sheet.specs.Ends.{moment, farEnd, reverse, corner}
 use Rattle.sheet.specs.Signs.{orElse}
 
@@ -157,14 +157,6 @@ unfoldable pub crossingOf : Object → Object → Meeting
 unfolding figure meeting
 crossingOf a b = meeting (figure a) (figure b)
 
--- ---- refusals: "Two objects: the first one's, then the second's, then 12."
-
--- "12: a crossing's reduced numbers are outside the limits for points"
-abbrev pub limitsRefusal : Meeting → ℤ
-limitsRefusal none = pos 0
-limitsRefusal (point e) = cond (isPoint e) (pos 0) (pos 12)
-limitsRefusal many = pos 0
-
+-- "Two objects: the first one's, then the second's"
 unfoldable pub crossingRefusal : Object → Object → ℤ
-unfolding crossingOf
-crossingRefusal a b = orElse (objectRefusal a) (orElse (objectRefusal b) (limitsRefusal (crossingOf a b)))
+crossingRefusal a b = orElse (objectRefusal a) (objectRefusal b)

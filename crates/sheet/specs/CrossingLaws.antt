@@ -1,12 +1,11 @@
--- What a crossing answers. A point that it answers is a point within the limits, so that refusal 12 is never given, and it lies on
--- the lines of both objects; that it lies on the objects themselves is demand 3, in `cut`. To cite:
+-- What a crossing of two accepted objects answers. Its point is one of the paper's, standard or frame, within the limits and with the
+-- common divisor out, and it lies on the lines of both objects; that it lies on the objects themselves is demand 3, in `cut`. To cite:
 --   crossing-is-point       the point that is answered is a point
---   crossing-limits, crossing-refusal   refusal 12 is not given; of accepted objects no refusal is
 --   crossing-on-both        the point that is answered is on the line of each of the two, and on each side of the frame
 --   Good, OnFigure, crossing-good   the three in one
 --   meeting-standard        the point where two lines meet is a standard point, before the division too
 -- Assumes nothing.
-use mathlib.Core.Path.{_≡_, refl, _∙_, ap, subst}
+use mathlib.Core.Path.{_≡_, refl, _∙_, subst}
 use mathlib.Core.Bool.{Bool, true, false, cond, _&&_}
 use mathlib.Core.List.{List, [], _∷_}
 use lib.IntN.{ℤ, pos, _+ℤ_, _-ℤ_, _*ℤ_}
@@ -26,7 +25,7 @@ use Rattle.sheet.specs.Refusal.{Accepted}
 use Rattle.sheet.specs.Points.{size, given, isPoint}
 use Rattle.sheet.specs.Ends.{moment, farEnd, reverse, begins}
 use Rattle.sheet.specs.Signs.{sideOfFigure, sideSign}
-use Rattle.sheet.specs.Crossing.{Meeting, none, point, many, Limit, free, till, Piece, segmentPiece, rayPiece, linePiece, cross, dot, meetingPoint, reaches, skew, later, sooner, between, alike, together, pieces, onSide, endOn, sides, withSide, withPiece, meeting, crossingOf, limitsRefusal, crossingRefusal}
+use Rattle.sheet.specs.Crossing.{Meeting, none, point, many, Limit, free, till, Piece, segmentPiece, rayPiece, linePiece, cross, dot, meetingPoint, reaches, skew, later, sooner, between, alike, together, pieces, onSide, endOn, sides, withSide, withPiece, meeting, crossingOf}
 use Rattle.sheet.specs.Flags.{both}
 use Rattle.sheet.specs.RefusalLaws.{Small, Proper, Drawn, draw-segment, draw-ray, draw-line, draw-side, accepted-drawn}
 use Rattle.sheet.specs.PointsLaws.{Standard, APoint, a-standard, point-is, standard-divided, divided-one}
@@ -251,35 +250,20 @@ meeting-good (draw-side {n}) k = with-side-good n k
 
 -- ---- the laws
 
-module _ {a b : Object} (ha : Accepted a) (hb : Accepted b) where
-  pub crossing-good : Good (OnFigure (figure a)) (OnFigure (figure b)) (crossingOf a b)
-  unfolding crossingOf
-  crossing-good = meeting-good (accepted-drawn ha) (accepted-drawn hb)
+pub crossing-good : {a b : Object} → Accepted a → Accepted b → Good (OnFigure (figure a)) (OnFigure (figure b)) (crossingOf a b)
+unfolding crossingOf
+crossing-good ha hb = meeting-good (accepted-drawn ha) (accepted-drawn hb)
 
-  pub crossing-limits : limitsRefusal (crossingOf a b) ≡ pos 0
-  crossing-limits = go crossing-good
-    where
-      go : {F G : Point → Type 0} {m : Meeting} → Good F G m → limitsRefusal m ≡ pos 0
-      go a-none = refl
-      go (a-point {e} h f g) = ap (λ (t : Bool). cond t (pos 0) (pos 12)) (point-is e .1 h)
-      go a-many = refl
+-- "the limits on coordinates keep every reduced crossing within the limits for points" (document 02): standard or frame, as `isPoint` has it
+pub crossing-is-point : {a b : Object} {e : Point} → Accepted a → Accepted b → crossingOf a b ≡ point e → isPoint e ≡ true
+crossing-is-point {a} {b} {e} ha hb h = go (subst (Good (OnFigure (figure a)) (OnFigure (figure b))) h (crossing-good ha hb))
+  where
+    go : {F G : Point → Type 0} → Good F G (point e) → isPoint e ≡ true
+    go (a-point h f g) = point-is e .1 h
 
-  pub crossing-refusal : crossingRefusal a b ≡ pos 0
-  unfolding crossingRefusal
-  crossing-refusal = simp (ha .accepted, hb .accepted, crossing-limits)
-
-  module _ {e : Point} (h : crossingOf a b ≡ point e) where
-    here : Good (OnFigure (figure a)) (OnFigure (figure b)) (point e)
-    here = subst (Good (OnFigure (figure a)) (OnFigure (figure b))) h crossing-good
-
-    pub crossing-is-point : isPoint e ≡ true
-    crossing-is-point = go here
-      where
-        go : {F G : Point → Type 0} → Good F G (point e) → isPoint e ≡ true
-        go (a-point h f g) = point-is e .1 h
-
-    pub crossing-on-both : (sideSign a e ≡ pos 0) × (sideSign b e ≡ pos 0)
-    crossing-on-both = go here
-      where
-        go : Good (OnFigure (figure a)) (OnFigure (figure b)) (point e) → (sideSign a e ≡ pos 0) × (sideSign b e ≡ pos 0)
-        go (a-point h f g) = (side-of-figure a e refl ∙ f, side-of-figure b e refl ∙ g)
+pub crossing-on-both : {a b : Object} {e : Point} → Accepted a → Accepted b → crossingOf a b ≡ point e
+    → (sideSign a e ≡ pos 0) × (sideSign b e ≡ pos 0)
+crossing-on-both {a} {b} {e} ha hb h = go (subst (Good (OnFigure (figure a)) (OnFigure (figure b))) h (crossing-good ha hb))
+  where
+    go : Good (OnFigure (figure a)) (OnFigure (figure b)) (point e) → (sideSign a e ≡ pos 0) × (sideSign b e ≡ pos 0)
+    go (a-point h f g) = (side-of-figure a e refl ∙ f, side-of-figure b e refl ∙ g)

@@ -29,3 +29,4 @@ pub mod WorkedObjects
 pub mod WorkedPoints
 pub mod WorkedRefusals
 pub mod WorkedAnswers
+pub mod WorkedReach

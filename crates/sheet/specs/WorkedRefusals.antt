@@ -1,7 +1,8 @@
 -- Which refusal comes first, worked out by document 01's order, where two or more would do: of several points and objects, of lists, and
 -- with lent cells. A definition that has another order is refused here, whatever the code does.
 use mathlib.Core.Path.{_≡_, refl}
-use mathlib.Core.List.{List, [], _∷_, _++_}
+use mathlib.Core.Bool.{true, false}
+use mathlib.Core.List.{List, [], _∷_, _++_, map}
 use Prim.Native.Nat.{ℕ}
 use lib.IntN.{ℤ, pos}
 use lib.ListN.{replicate}
@@ -9,13 +10,11 @@ use Rattle.whole.specs.Sign.{sgn}
 use Rattle.whole.specs.Divisor.{steps, gcd, gcdOf}
 use Rattle.sheet.specs.declared.Object.{Object}
 use Rattle.sheet.specs.declared.Point.{Point}
-use Rattle.sheet.specs.Figure.{sideOf, figure}
 use Rattle.sheet.specs.Refusal.{pairRefusal, sideRefusal, objectRefusal}
-use Rattle.sheet.specs.Points.{divided, standard, narrow, frame, isPoint, pointRefusal}
-use Rattle.sheet.specs.Ends.{farRaw, farEnd}
+use Rattle.sheet.specs.RefusalTable.{refusals, among}
+use Rattle.sheet.specs.Points.{standard, narrow, frame, isPoint, pointRefusal}
 use Rattle.sheet.specs.Signs.{orderRefusal, turnRefusal, sideSignRefusal}
-use Rattle.sheet.specs.Crossing.{none, many, pieces, withSide, withPiece, meeting, crossingOf, limitsRefusal, crossingRefusal}
-use Rattle.sheet.specs.Crossing as crossing
+use Rattle.sheet.specs.Crossing.{crossingRefusal}
 use Rattle.sheet.specs.Answers.{answer, objectNumbers}
 use Rattle.sheet.specs.Lists.{firstRefusal, listRefusal, indexRefusal}
 use Rattle.sheet.specs.Lent.{roomRefusal, otherNumber, lengthGiven, filled}
@@ -73,21 +72,21 @@ pub record WorkedRefusals : Type 0 where
       (sideSignRefusal noKind noPoint ≡ pos 1) × (sideSignRefusal tooFar noPoint ≡ pos 2) × (sideSignRefusal onePlace noPoint ≡ pos 3)
       × (sideSignRefusal noSide noPoint ≡ pos 4)
   then-the-point : sideSignRefusal fine noPoint ≡ pos 5
-  -- "Two objects: the first one's, then the second's, then 12."
+  -- "Two objects: the first one's, then the second's"
   first-before-second :
       (crossingRefusal noKind tooFar ≡ pos 1) × (crossingRefusal tooFar noKind ≡ pos 2) × (crossingRefusal onePlace noSide ≡ pos 3)
       × (crossingRefusal noSide onePlace ≡ pos 4)
   then-the-second : (crossingRefusal fine noSide ≡ pos 4) × (crossingRefusal noSide fine ≡ pos 4) × (crossingRefusal fine fine ≡ pos 0)
-  -- "12: a crossing's reduced numbers are outside the limits for points"
-  outside-the-limits :
-      (limitsRefusal (crossing.point noPoint) ≡ pos 12) × (limitsRefusal (crossing.point wide) ≡ pos 0) × (limitsRefusal none ≡ pos 0)
-      × (limitsRefusal many ≡ pos 0)
+  -- "Numbers that say no": of 0, 1, .., 15 those from 1 to 14; and of 12 "The number is not used again" (document 02)
+  numbers-that-say-no :
+      map (λ n. among n refusals) (0 ∷ 1 ∷ 2 ∷ 3 ∷ 4 ∷ 5 ∷ 6 ∷ 7 ∷ 8 ∷ 9 ∷ 10 ∷ 11 ∷ 12 ∷ 13 ∷ 14 ∷ 15 ∷ [])
+      ≡ false ∷ (replicate 11 true ++ (false ∷ true ∷ true ∷ false ∷ []))
   -- "14: list length not a multiple of five". "11: more than 512 objects": 2,565 numbers are 513 objects, 2,560 are 512
   list-taken : (listRefusal [] ≡ pos 0) × (listRefusal (both fine fine) ≡ pos 0)
   no-multiple-of-five : (listRefusal (zeros 1) ≡ pos 14) × (listRefusal (objectNumbers fine ++ zeros 4) ≡ pos 14)
   too-many : listRefusal (zeros 2565) ≡ pos 11
   not-too-many : listRefusal (zeros 2560) ≡ pos 1
-  -- "A list: 14, 11, each object in turn, 12, then 10."
+  -- "A list: 14, 11, each object in turn, .. then 10."
   fourteen-before-eleven : (listRefusal (zeros 2566) ≡ pos 14) × (listRefusal (zeros 2569) ≡ pos 14)
   fourteen-before-objects : listRefusal (objectNumbers tooFar ++ zeros 1) ≡ pos 14
   eleven-before-objects : listRefusal (objectNumbers tooFar ++ zeros 2560) ≡ pos 11
@@ -111,7 +110,7 @@ pub record WorkedRefusals : Type 0 where
   unchanged : filled {A = ℕ} (pos 3) (1 ∷ []) (7 ∷ 8 ∷ []) ≡ 7 ∷ 8 ∷ []
 
 pub worked-refusals : WorkedRefusals
-unfolding sgn steps gcd gcdOf sideOf figure pairRefusal sideRefusal objectRefusal divided standard narrow frame isPoint pointRefusal farRaw farEnd orderRefusal turnRefusal sideSignRefusal pieces withSide withPiece meeting crossingOf crossingRefusal firstRefusal listRefusal
+unfolding sgn steps gcd gcdOf pairRefusal sideRefusal objectRefusal standard narrow frame isPoint pointRefusal orderRefusal turnRefusal sideSignRefusal crossingRefusal firstRefusal listRefusal
 worked-refusals = record {
   points-taken = refl;
   no-point-of-two = (refl, refl, refl);
@@ -123,7 +122,7 @@ worked-refusals = record {
   then-the-point = refl;
   first-before-second = (refl, refl, refl, refl);
   then-the-second = (refl, refl, refl);
-  outside-the-limits = (refl, refl, refl, refl);
+  numbers-that-say-no = refl;
   list-taken = (refl, refl);
   no-multiple-of-five = (refl, refl);
   too-many = refl;

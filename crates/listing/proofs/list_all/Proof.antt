@@ -1,26 +1,22 @@
-use mathlib.Core.Path.{_≡_, sym, _∙_}
+use mathlib.Core.Path.{_≡_, _∙_}
 use lib.IntN.{pos}
 use Rattle.whole.specs.Tests.{fits-ok}
 use Rattle.sheet.specs.AnswersLaws.{not-refused}
+use Rattle.sheet.specs.Lists.{listRefusal}
 use Rattle.sheet.specs.ListsLaws.{Listable, listable}
 use Rattle.listing.specs.Rows.{rowsOf, sharing}
 use Rattle.listing.specs.RowsLaws.{length-rows}
-use Rattle.listing.specs.Listing.{allRefusal}
-use Rattle.listing.specs.ListingLaws.{all-refusal}
 use Rattle.listing.proofs.Cases.{refused, short, room, done}
 use borrow.Author.Needs.{needs}
 use Rattle.listing.proofs.list_all.Statement.{statement}
 use Rattle.listing.proofs.list_all.Tie as tie
 
--- the first check, and what is known where it found nothing
-checked : (c : tie.After-list-refusal) → c .list-refusal .result ≡ allRefusal (c .before .args .list .now)
-checked c = c .list-refusal .ensures ∙ sym (all-refusal (c .before .args .list .now))
-
-accepted : (c : tie.Else1) → allRefusal (c .before .before .args .list .now) ≡ pos 0
-accepted c = not-refused (c .before .list-refusal .ok) (checked (c .before)) (c .if1 .left)
+-- where the first check found nothing
+accepted : (c : tie.Else1) → listRefusal (c .before .before .args .list .now) ≡ pos 0
+accepted c = not-refused (c .before .list-refusal .ok) (c .before .list-refusal .ensures) (c .if1 .left)
 
 known : (c : tie.Else1) → Listable (c .before .before .args .list .now)
-known c = listable (c .before .before .args .list .now) (not-refused (c .before .list-refusal .ok) (c .before .list-refusal .ensures) (c .if1 .left))
+known c = listable (c .before .before .args .list .now) (accepted c)
 
 list-refusal-requires : tie.Need-list-refusal-requires
 list-refusal-requires c κs = search needs
@@ -34,7 +30,7 @@ returns c =
     let s = d .before .before in
     let l = s .args .list .now in
     let r = d .before .list-refusal in
-    let x = refused (sharing l) (rowsOf l) (s .args .out .now) (r .result) (fits-ok (r .result) (r .ok)) (checked (d .before)) (d .if1 .taken) in
+    let x = refused (sharing l) (rowsOf l) (s .args .out .now) (r .result) (fits-ok (r .result) (r .ok)) (r .ensures) (d .if1 .taken) in
     (c .refuse .ensures ∙ x .0, x .1)
 
 lacking-room-requires : tie.Need-lacking-room-requires

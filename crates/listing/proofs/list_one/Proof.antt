@@ -1,5 +1,5 @@
 use Prim.Native.Nat.{_<_}
-use mathlib.Core.Path.{_≡_, sym, _∙_}
+use mathlib.Core.Path.{_≡_, _∙_}
 use native.Mathlib.Omega.{arith}
 use lib.IntN.{pos}
 use Rattle.whole.specs.Tests.{fits-ok}
@@ -9,24 +9,20 @@ use Rattle.sheet.specs.ListsLaws.{Listable, listable, index-below}
 use Rattle.listing.specs.Rows.{rowsWith, sharingWith}
 use Rattle.listing.specs.RowsLaws.{length-rows-with}
 use Rattle.listing.specs.Listing.{oneRefusal}
-use Rattle.listing.specs.ListingLaws.{one-refusal}
 use Rattle.listing.proofs.Cases.{refused, short, room, done}
 use borrow.Author.Needs.{needs}
 use Rattle.listing.proofs.list_one.Statement.{statement}
 use Rattle.listing.proofs.list_one.Tie as tie
 
--- the first check, and what is known where it found nothing
-checked : (c : tie.After-index-refusal) → c .index-refusal .result ≡ oneRefusal (c .before .args .list .now) (c .before .args .i)
-checked c = c .index-refusal .ensures ∙ sym (one-refusal (c .before .args .list .now) (c .before .args .i))
-
+-- where the first check found nothing
 accepted : (c : tie.Else1) → oneRefusal (c .before .before .args .list .now) (c .before .before .args .i) ≡ pos 0
-accepted c = not-refused (c .before .index-refusal .ok) (checked (c .before)) (c .if1 .left)
+accepted c = not-refused (c .before .index-refusal .ok) (c .before .index-refusal .ensures) (c .if1 .left)
 
 known : (c : tie.Else1) → Listable (c .before .before .args .list .now) × (c .before .before .args .i < countOf (c .before .before .args .list .now))
 known c =
     let s = c .before .before in
     let l = s .args .list .now in
-    let z = or-zero (listRefusal l) (indexRefusal l (s .args .i)) (not-refused (c .before .index-refusal .ok) (c .before .index-refusal .ensures) (c .if1 .left)) in
+    let z = or-zero (listRefusal l) (indexRefusal l (s .args .i)) (accepted c) in
     (listable l (z .0), index-below l (s .args .i) (z .1))
 
 index-refusal-requires : tie.Need-index-refusal-requires
@@ -42,7 +38,7 @@ returns c =
     let l = s .args .list .now in
     let r = d .before .index-refusal in
     let x = refused (sharingWith l (s .args .i)) (rowsWith l (s .args .i)) (s .args .out .now)
-    (r .result) (fits-ok (r .result) (r .ok)) (checked (d .before)) (d .if1 .taken) in
+    (r .result) (fits-ok (r .result) (r .ok)) (r .ensures) (d .if1 .taken) in
     (c .refuse .ensures ∙ x .0, x .1)
 
 lacking-with-requires : tie.Need-lacking-with-requires

@@ -3,7 +3,7 @@ use Rattle.whole.specs.Tests.{fits-ok}
 use Rattle.sheet.specs.Refusal.{Accepted}
 use Rattle.sheet.specs.AnswersLaws.{accepted, says-refused, refused-first, refused-next, not-refused}
 use Rattle.sheet.specs.Crossing.{crossingOf, crossingRefusal}
-use Rattle.sheet.specs.CrossingLaws.{crossing-refusal}
+use Rattle.sheet.specs.AcceptsLaws.{taken-cross}
 use Rattle.kernel.proofs.Handed as handed
 use Rattle.kernel.proofs.Eight.{say}
 use borrow.Author.Needs.{needs}
@@ -50,7 +50,7 @@ returns-2 c =
     let d = c .before in
     let f = d .before .before in
     says-refused _ (fits-ok (d .object-refusal2 .result) (d .object-refusal2 .ok))
-    (refused-first _ (d .object-refusal2 .ensures .0) (c .if2 .taken)
+    (d .object-refusal2 .ensures .0
     ∙ sym (refused-next _ (fits-ok (f .object-refusal .result) (f .object-refusal .ok)) (f .object-refusal .ensures .0) (d .before .if1 .left)))
     (c .if2 .taken)
 
@@ -64,7 +64,7 @@ returns-3 c =
     let d = c .before in
     let e = tested d in
     c .meet .ensures ∙ (λ i. say (crossingOf (first-told d i) (second-told d i)))
-    ∙ sym (accepted _ (crossing-refusal (first-taken (e .before .before)) (second-taken e)))
+    ∙ sym (accepted _ (taken-cross (first-taken (e .before .before)) (second-taken e)))
 
 pub cross-spec : {M : Type 1} → statement M
 cross-spec =

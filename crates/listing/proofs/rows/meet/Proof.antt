@@ -2,7 +2,7 @@ use mathlib.Core.Path.{_∙_}
 use Rattle.sheet.specs.Answers.{answer, meetingNumbers}
 use Rattle.sheet.specs.AnswersLaws.{accepted}
 use Rattle.sheet.specs.Crossing.{crossingOf, crossingRefusal}
-use Rattle.sheet.specs.CrossingLaws.{crossing-refusal}
+use Rattle.sheet.specs.AcceptsLaws.{taken-cross}
 use Rattle.sheet.specs.Lists.{objectAt}
 use Rattle.listing.specs.RowsLaws.{met-by}
 use borrow.Author.Needs.{needs}
@@ -24,7 +24,7 @@ returns c =
     let b = c .before .object-at .ensures in
     met-by (c .cross .result) (crossingOf a (objectAt l j))
     (c .cross .ensures ∙ (λ k. answer (crossingRefusal a (b k)) (meetingNumbers (crossingOf a (b k))))
-    ∙ accepted _ (crossing-refusal (s .pre .0) (s .pre .1 .0 .each j (s .pre .1 .1))))
+    ∙ accepted _ (taken-cross (s .pre .0) (s .pre .1 .0 .each j (s .pre .1 .1))))
 
 pub meet-spec : {M : Type 1} → statement M
 meet-spec = tie.close (tie.spec object-at-requires cross-requires returns)

@@ -1,0 +1,223 @@
+-- Which numbers the public calls refuse by, of their contracts. To cite:
+--   in-the-table       each refuses by a number of the table, or by 0, which is not to refuse
+--   never, no-twelve   none refuses by a number that is not of the table, as 12
+--   once-taken         the point that a crossing answers is a point: no call refuses it by 5
+-- Assumes nothing.
+use mathlib.Core.Path.{_≡_, refl, sym, ap, subst, _∙_}
+use mathlib.Core.Bool.{Bool, false, cond}
+use mathlib.Core.List.{List, [], _∷_}
+use Prim.Native.Nat.{ℕ, zero, suc, _+_, _*_, _%_}
+use native.Mathlib.Omega.{arith}
+use lib.Dec.{eqb, ltb}
+use lib.IntN.{ℤ, pos, negsuc, _+ℤ_}
+use lib.ListN.{length, drop}
+use contract.Lifetimes.{Lfts}
+use denote.Ref.{RefT}
+use Rattle.whole.specs.Flag.{eqZ}
+use Rattle.whole.specs.Ring.{var, lit, _⊕_, _⊖_, ring}
+use Rattle.whole.specs.Bound.{Within}
+use Rattle.whole.specs.Order.{lt-intro}
+use Rattle.whole.specs.Tests.{cond-by, eqZ-true, lt-leZ}
+use Rattle.sheet.specs.declared.Object.{Object}
+use Rattle.sheet.specs.declared.Point.{Point}
+use Rattle.sheet.specs.declared.Crossing.the-variants as crossing
+use Rattle.sheet.specs.RefusalTable.{refusals, among, Known}
+use Rattle.sheet.specs.RefusalTableLaws.{one-of, one-among, not-one, known-or, known-pair, known-side, known-object, known-point, known-order, known-turn, known-side-sign, known-crossing, known-list, known-index, known-room, refusal-in}
+use Rattle.sheet.specs.Points.{standard, pointRefusal}
+use Rattle.sheet.specs.Signs.{orElse}
+use Rattle.sheet.specs.Lists.{rowWidth, listRefusal, indexRefusal}
+use Rattle.sheet.specs.Answers.{answer, refusalIn, meetingNumbers}
+use Rattle.sheet.specs.AnswersLaws.{accepted}
+use Rattle.sheet.specs.AcceptsLaws.{cross-taken}
+use Rattle.sheet.specs.Crossing.{crossingOf, crossingRefusal}
+use Rattle.sheet.specs.CrossingLaws.{crossing-is-point}
+use Rattle.store.specs.declared.Place as reader
+use Rattle.store.specs.declared.Item.{Item}
+use Rattle.store.specs.declared.Read.{Read}
+use Rattle.store.specs.declared.Stepped.{Stepped}
+use Rattle.store.specs.declared.Taken.{Taken}
+use Rattle.store.specs.declared.Written.{Written}
+use Rattle.store.specs.Refusals.{ofBytes}
+use Rattle.store.specs.Stored.{Reading, readDrawing, writeDrawing}
+use Rattle.store.specs.SureLaws.{Sure, sure-object, sure-count}
+use Rattle.store.specs.SureLaws as sure
+use Rattle.store.specs.Reader.{stepObject, stepFrom, stepCounted, stepOf, callFrom, itemSays}
+use Rattle.store.specs.Answers.{readAnswer, writeAnswer}
+use Rattle.listing.specs.declared.Listed.{Listed}
+use Rattle.listing.specs.Rows.{sharingWith, sharing}
+use Rattle.listing.specs.Listing.{oneRefusal}
+use Rattle.listing.specs.RowsLaws.{met-by}
+use Rattle.rowtext.specs.declared.Put.{Put}
+use Rattle.rowtext.specs.Text.{objectsWord, rowsWord, refusedWord, rowsText, countLine}
+use Rattle.rowtext.specs.Put.{rowsRefusal}
+use Rattle.screen.specs.Told.{Told, answered}
+use Rattle.screen.specs.Places.{placeOf}
+use Rattle.measure.specs.declared.Shown.{Shown}
+use Rattle.viewer.specs.Answered.{ofSide, Answered, a-sign, a-refusal}
+use Rattle.viewer.specs.AnsweredLaws.{side-answers}
+use Rattle.viewer.specs.Calls.{sideAnswer}
+use Rattle.viewer.specs.ReadingLaws.{bytes-refusal}
+use Rattle.kernel.proofs.crossing.cross.Reads as cross
+use Rattle.refusals.specs.Calls.{sideRefusalIn, Calls, Never}
+
+-- ---- an answer's numbers
+
+known-answer : {said : List ℤ} (n : ℤ) (values : List ℤ) → Known n → said ≡ answer n values → Known (refusalIn said)
+known-answer n values k e = subst Known (sym (ap refusalIn e ∙ refusal-in n values)) k
+
+-- with floats
+told-refusal : (n : ℤ) (t : Told) → refusalIn (t .wholes) ≡ pos 0 → refusalIn (answered n t .wholes) ≡ n
+told-refusal n t h = cond-by (λ (u : Told). refusalIn (u .wholes) ≡ n) (eqZ n (pos 0)) (λ e. h ∙ sym (eqZ-true e)) (λ e. refl)
+
+known-told : {said : Told} (n : ℤ) (t : Told) → Known n → refusalIn (t .wholes) ≡ pos 0 → said ≡ answered n t → Known (refusalIn (said .wholes))
+known-told n t k h e = subst Known (sym (ap (λ (u : Told). refusalIn (u .wholes)) e ∙ told-refusal n t h)) k
+
+place-told : (p : Point) → refusalIn (placeOf p .wholes) ≡ pos 0
+unfolding placeOf
+place-told p = cond-by (λ (t : Told). refusalIn (t .wholes) ≡ pos 0) (standard p) (λ e. refl) (λ e. refl)
+
+-- ---- with lent cells
+
+-- the lent cells are too short for a result of this size
+abbrev short : {A : Type 0} → RefT (List A) → ℕ → Bool
+short lent size = ltb (length (lent .now)) size
+
+-- what a call says that refuses by n, or by 10 where they are
+known-lent : {z : ℤ} (n : ℤ) (short : Bool) → Known n → z ≡ orElse n (cond short (pos 10) (pos 0)) → Known z
+known-lent n short k e = subst Known (sym e) (known-room n short k)
+
+known-rows : (l : List ℤ) → Known (rowsRefusal l)
+known-rows l = cond-by Known (eqb (length l % rowWidth) 0) (λ e. one-of 0 refl) (λ e. one-of 14 refl)
+
+known-one : (l : List ℤ) (i : ℕ) → Known (oneRefusal l i)
+known-one l i = known-or (listRefusal l) (indexRefusal l i) (known-list l) (known-index l i)
+
+-- ---- stored bytes
+
+known-bytes : (bs : List ℕ) → Known (readDrawing bs .refusal)
+known-bytes bs = one-among (0 ∷ ofBytes) _ refl (bytes-refusal bs)
+
+known-read : {z : ℤ} (bs : List ℕ) (lent : RefT (List ℤ)) → z ≡ readAnswer (readDrawing bs) (lent .now) .refusal → Known z
+unfolding readAnswer
+known-read bs lent e = known-lent _ (short lent (length (readDrawing bs .objects))) (known-bytes bs) e
+
+known-written : {z : ℤ} (l : List ℤ) (lent : RefT (List ℕ)) → z ≡ writeAnswer l (lent .now) .refusal → Known z
+unfolding writeAnswer
+known-written l lent e = known-lent _ (short lent (length (writeDrawing l))) (known-list l) e
+
+-- ---- a reader's calls
+
+abbrev ItemKnown : Item → Type 0
+ItemKnown i = Known (refusalIn (itemSays i))
+
+item-object : (bs : List ℕ) (p : reader.Place) (left : ℕ) {P : Object → Type 0} {from : List ℕ} {r : Reading Object} → Sure P from r
+    → ItemKnown (stepObject bs p left r .item)
+item-object bs p left (sure.read o front rest e h) = one-of 0 refl
+item-object bs p left (sure.refused n e) = one-among ofBytes _ refl (one-of n e)
+
+item-from : (bs : List ℕ) (p : reader.Place) (left at : ℕ) → ItemKnown (stepFrom bs p left at .item)
+unfolding stepFrom
+item-from bs p zero at = cond-by ItemKnown (ltb at (length bs)) (λ e. one-of 9 refl) (λ e. one-of 0 refl)
+item-from bs p (suc left) at = item-object bs p left (sure-object (drop at bs))
+
+item-counted : (bs : List ℕ) (p : reader.Place) {P : ℕ → Type 0} {from : List ℕ} {r : Reading ℕ} → Sure P from r → ItemKnown (stepCounted bs p r .item)
+item-counted bs p (sure.read n front rest e h) = item-from bs p n _
+item-counted bs p (sure.refused n e) = one-among ofBytes _ refl (one-of n e)
+
+item-known : (bs : List ℕ) (p : reader.Place) → ItemKnown (stepOf bs p .item)
+unfolding stepOf
+item-known bs p =
+    cond-by (λ (s : Stepped). ItemKnown (s .item)) (p .begun) (λ e. item-from bs p (p .left) (p .at)) (λ e. item-counted bs p (sure-count bs))
+
+-- ---- the viewer's side
+
+sign-in : (r : ℤ) → Within 1 r → sideRefusalIn r ≡ pos 0
+sign-in (pos zero) h = refl
+sign-in (pos (suc zero)) h = refl
+sign-in (pos (suc (suc n))) h = absurd (omega (arith, h .within))
+sign-in (negsuc zero) h = refl
+sign-in (negsuc (suc n)) h = absurd (omega (arith, h .within))
+
+above-in : (n : ℕ) → sideRefusalIn (pos 100 +ℤ pos n) ≡ pos n
+above-in n =
+    let beyond = lt-leZ {a = pos (100 + n)} {b = pos 1} (lt-intro (98 + n) (ap pos (omega arith))) in
+    simp beyond (ring (pos n ∷ []) (lit 100 ⊕ var 0 ⊖ lit 100) (var 0) tt)
+
+side-known : (bs : List ℕ) (i x y : ℤ) → Known (sideRefusalIn (sideAnswer bs i x y))
+side-known bs i x y = go (side-answers bs i x y)
+  where
+    go : {r : ℤ} → Answered (readDrawing bs) i x y r → Known (sideRefusalIn r)
+    go (a-sign e f w) = subst Known (sym (sign-in _ w)) (one-of 0 refl)
+    go (a-refusal o e) =
+        subst Known (sym (ap sideRefusalIn (e ∙ ap (λ (z : ℤ). pos 100 +ℤ z) (o .is)) ∙ above-in (o .number)))
+        (one-among ofSide _ refl (one-of (o .number) (o .one)))
+
+-- ---- the calls
+
+calls : (P : ℤ → Type 0) → ((z : ℤ) → Known z → P z) → Calls P
+unfolding callFrom
+calls P f = record {
+  of-segment = λ κs a r e. f _ (known-answer _ _ (known-pair (a .0) (a .1 .0) (a .1 .1 .0) (a .1 .1 .1 .0)) e);
+  of-ray = λ κs a r e. f _ (known-answer _ _ (known-pair (a .0) (a .1 .0) (a .1 .1 .0) (a .1 .1 .1 .0)) e);
+  of-line = λ κs a r e. f _ (known-answer _ _ (known-pair (a .0) (a .1 .0) (a .1 .1 .0) (a .1 .1 .1 .0)) e);
+  of-side = λ κs n r e. f _ (known-answer _ _ (known-side n (pos 0) (pos 0) (pos 0)) e);
+  of-pair-refusal = λ κs a r e. f _ (subst Known (sym e) (known-pair (a .0) (a .1 .0) (a .1 .1 .0) (a .1 .1 .1 .0)));
+  of-side-refusal = λ κs a r e. f _ (subst Known (sym e) (known-side (a .0) (a .1 .0) (a .1 .1 .0) (a .1 .1 .1 .0)));
+  of-object-refusal = λ κs o r e. f _ (subst Known (sym (e .0)) (known-object o));
+  of-list-refusal = λ κs l r e. f _ (subst Known (sym e) (known-list (l .now)));
+  of-check-object = λ κs o r e. f _ (subst Known (sym e) (known-object o));
+  of-check-point = λ κs p r e. f _ (subst Known (sym e) (known-point p));
+  of-ends-of = λ κs o r e. f _ (known-answer _ _ (known-object o) e);
+  of-order-points = λ κs p q r e. f _ (known-answer _ _ (known-order p q) e);
+  of-turn-points = λ κs p q s r e. f _ (known-answer _ _ (known-turn p q s) e);
+  of-side-of = λ κs o s r e. f _ (known-answer _ _ (known-side-sign o s) e);
+  of-cross = λ κs a b r e. f _ (known-answer _ _ (known-crossing a b) e);
+  of-check-drawing = λ κs bytes r e. f _ (subst Known (sym e) (known-bytes (bytes .now)));
+  of-read-drawing = λ κs bytes out after r e. f _ (known-read (bytes .now) out (ap (λ (x : Read). x .refusal) (e .0)));
+  of-write-drawing = λ κs list out after r e. f _ (known-written (list .now) out (ap (λ (x : Written). x .refusal) (e .0)));
+  of-step = λ κs bytes place r e. f _ (subst (λ (x : Stepped). ItemKnown (x .item)) (sym e) (item-known (bytes .now) place));
+  of-next = λ κs reader r x e. f _ (subst (λ (t : Taken). ItemKnown (t .item)) (sym e) (item-known (reader .bytes .now) (reader .place)));
+  of-first = λ κs bytes r e. f _ (subst ItemKnown (sym e) (item-known (bytes .now) _));
+  of-list-one = λ κs list i out after r e.
+      f _ (known-lent _ (short out (sharingWith (list .now) i * rowWidth)) (known-one (list .now) i) (ap (λ (x : Listed). x .refusal) (e .0)));
+  of-list-all = λ κs list out after r e.
+      f _ (known-lent _ (short out (sharing (list .now) * rowWidth)) (known-list (list .now)) (ap (λ (x : Listed). x .refusal) (e .0)));
+  of-put-rows = λ κs rows out after r e.
+      f _ (known-lent _ (short out (length (rowsText (rows .now)))) (known-rows (rows .now)) (ap (λ (x : Put). x .refusal) (e .0)));
+  of-put-objects = λ κs n out after r e.
+      f _ (known-lent _ (short out (length (countLine objectsWord (pos n)))) (one-of 0 refl) (ap (λ (x : Put). x .refusal) (e .0)));
+  of-put-count = λ κs n out after r e.
+      f _ (known-lent _ (short out (length (countLine rowsWord (pos n)))) (one-of 0 refl) (ap (λ (x : Put). x .refusal) (e .0)));
+  of-put-refused = λ κs n out after r e.
+      f _ (known-lent _ (short out (length (countLine refusedWord n))) (one-of 0 refl) (ap (λ (x : Put). x .refusal) (e .0)));
+  of-place-of = λ κs p r e. f _ (known-told _ _ (known-point p) (place-told p) e);
+  of-box-of = λ κs l r e. f _ (known-told _ _ (known-list (l .now)) refl e);
+  of-viewer-check = λ κs bytes r e. f _ (subst Known (sym e) (known-bytes (bytes .now)));
+  of-viewer-side = λ κs bytes i x y r e. f _ (subst (λ (z : ℤ). Known (sideRefusalIn z)) (sym e) (side-known (bytes .now) i x y));
+  of-measure-list = λ κs list out after r e. f _ (known-lent _ (short out (sharing (list .now) * rowWidth)) (known-list (list .now)) (e .0));
+  of-measure-read = λ κs bytes out after r e. f _ (known-read (bytes .now) out (e .0));
+  of-measure-write = λ κs list out after r e. f _ (known-written (list .now) out (e .0));
+  of-measure-place = λ κs a r e. f _ (subst Known (sym (ap (λ (x : Shown). x .refusal) e ∙ told-refusal _ _ (place-told _))) (known-point _));
+  of-measure-box = λ κs l r e. f _ (subst Known (sym (ap (λ (x : Shown). x .refusal) e ∙ told-refusal _ _ refl)) (known-list (l .now)));
+}
+
+-- "one of the numbered refusals"
+pub in-the-table : Calls Known
+in-the-table = calls Known (λ z k. k)
+
+pub never : (n : ℕ) → among n (0 ∷ refusals) ≡ false → Never n
+never n h = calls (λ z. z ≡ pos n → ⊥) (λ z k. not-one n h k)
+
+-- "take the refusal out of the calls and the table. The number is not used again"
+pub no-twelve : Never 12
+no-twelve = never _ refl
+
+-- ---- the point of a crossing, of the code
+
+pub once-taken : (κs : Lfts 0) (a b : Object) (e : Point) → cross.Post κs (a, (b, tt)) (crossing.Once e) (a, (b, tt)) → pointRefusal e ≡ pos 0
+unfolding pointRefusal
+once-taken κs a b e h =
+    let z : crossingRefusal a b ≡ pos 0 = sym (refusal-in (crossingRefusal a b) (meetingNumbers (crossingOf a b))) ∙ sym (ap refusalIn h) in
+    let taken = cross-taken a b z in
+    let found = met-by (crossing.Once e) (crossingOf a b) (h ∙ accepted _ z) in
+    simp (crossing-is-point (taken .0) (taken .1) (sym found))

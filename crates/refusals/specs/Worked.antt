@@ -1,0 +1,55 @@
+-- Every number of the table is given, each by an example: what the contracts name (a crossing's refusal, a turn's, that of one object's rows,
+-- of reading into a lent list) computed on it.
+use mathlib.Core.Path.{_≡_, refl}
+use mathlib.Core.List.{List, [], _∷_, _++_}
+use Prim.Native.Nat.{ℕ}
+use lib.IntN.{ℤ, pos}
+use lib.ListN.{replicate}
+use Rattle.whole.specs.Sign.{sgn}
+use Rattle.whole.specs.Divisor.{steps, gcd, gcdOf}
+use Rattle.sheet.specs.declared.Object.{Object}
+use Rattle.sheet.specs.declared.Point.{Point}
+use Rattle.sheet.specs.Refusal.{pairRefusal, sideRefusal, objectRefusal}
+use Rattle.sheet.specs.RefusalTable.{refusals}
+use Rattle.sheet.specs.Points.{standard, narrow, frame, isPoint, pointRefusal}
+use Rattle.sheet.specs.Signs.{turnRefusal}
+use Rattle.sheet.specs.Crossing.{crossingRefusal}
+use Rattle.sheet.specs.Answers.{objectNumbers}
+use Rattle.sheet.specs.Lists.{firstRefusal, listRefusal}
+use Rattle.sheet.specs.Cases.{object, segment, side, point, at}
+use Rattle.store.specs.Stored.{readGroups, readCoordinate, readPoint, readSide, readTo, readPair, readShape, readObject, readObjects, readCount, readDrawing}
+use Rattle.store.specs.Answers.{readAnswer}
+use Rattle.listing.specs.Listing.{oneRefusal}
+
+pub data Met (n : ℕ) : Type 0 where
+  by-crossing : (a b : Object) → crossingRefusal a b ≡ pos n → Met n
+  by-turn : (p q s : Point) → turnRefusal p q s ≡ pos n → Met n
+  by-rows : (l : List ℤ) (i : ℕ) → oneRefusal l i ≡ pos n → Met n
+  by-reading : (bytes : List ℕ) (lent : List ℤ) → readAnswer (readDrawing bytes) lent .refusal ≡ pos n → Met n
+
+pub data EachMet : List ℕ → Type 0 where
+  none : EachMet []
+  more : {n : ℕ} {ns : List ℕ} → Met n → EachMet ns → EachMet (n ∷ ns)
+
+abbrev fine : Object
+fine = segment (pos 0) (pos 0) (pos 1) (pos 1)
+
+abbrev origin : Point
+origin = at (pos 0) (pos 0)
+
+pub each-met : EachMet refusals
+unfolding sgn steps gcd gcdOf pairRefusal sideRefusal objectRefusal standard narrow frame isPoint pointRefusal turnRefusal crossingRefusal firstRefusal listRefusal readGroups readCoordinate readPoint readSide readTo readPair readShape readObject readObjects readCount readDrawing readAnswer
+each-met =
+    more (by-crossing (object (pos 5) (pos 0) (pos 0) (pos 1) (pos 1)) fine refl)
+    (more (by-crossing fine (segment (pos 0) (pos 0) (pos 2001) (pos 1)) refl)
+    (more (by-crossing fine (segment (pos 7) (pos 8) (pos 7) (pos 8)) refl)
+    (more (by-crossing (side (pos 5)) fine refl)
+    (more (by-turn origin origin (point (pos 0) (pos 0) (pos 0) (pos 0) (pos 2)) refl)
+    (more (by-turn origin origin (point (pos 0) (pos 1) (pos 0) (pos 1) (pos 4001)) refl)
+    (more (by-reading [] [] refl)
+    (more (by-reading (128 ∷ 0 ∷ []) [] refl)
+    (more (by-reading (0 ∷ 0 ∷ []) [] refl)
+    (more (by-reading (1 ∷ 4 ∷ 1 ∷ []) [] refl)
+    (more (by-rows (replicate 2565 (pos 0)) 0 refl)
+    (more (by-rows (objectNumbers fine) 1 refl)
+    (more (by-rows (pos 4 ∷ []) 0 refl) none))))))))))))

@@ -1,0 +1,1 @@
+// Which numbers the public calls refuse by, shown of their contracts. Specs only.
