@@ -5,6 +5,7 @@ use mathlib.Core.Bool.{cond}
 use mathlib.Core.List.{List}
 use Prim.Native.Nat.{ℕ}
 use lib.IntN.{ℤ, pos, _-ℤ_}
+use lib.Signed.{ltZ}
 use contract.Lifetimes.{Lfts}
 use denote.Ref.{RefT}
 use denote.Triple.Clauses.{AtExit}
@@ -76,9 +77,9 @@ Four = ℤ × (ℤ × (ℤ × (ℤ × Unit {0})))
 abbrev pub Five : Type 0
 Five = ℤ × Four
 
--- "-1, 0, 1, or 100 plus the refusal": what an answer of silvanelga_side refuses by
+-- "-1, 0, 1, or 100 plus the refusal": what an answer of silvanelga_side refuses by; a number that is none of these counts as it is
 abbrev pub sideRefusalIn : ℤ → ℤ
-sideRefusalIn r = cond (within (pos 1) r) (pos 0) (r -ℤ pos 100)
+sideRefusalIn r = cond (ltZ (pos 100) r) (r -ℤ pos 100) (cond (within (pos 1) r) (pos 0) r)
 
 pub record Calls (P : ℤ → Type 0) : Type 0 where
   -- sheet: objects made, objects and lists checked

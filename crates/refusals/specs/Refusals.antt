@@ -4,7 +4,7 @@
 --   once-taken         the point that a crossing answers is a point: no call refuses it by 5
 -- Assumes nothing.
 use mathlib.Core.Path.{_≡_, refl, sym, ap, subst, _∙_}
-use mathlib.Core.Bool.{Bool, false, cond}
+use mathlib.Core.Bool.{Bool, true, false, cond, true≢false}
 use mathlib.Core.List.{List, [], _∷_}
 use Prim.Native.Nat.{ℕ, zero, suc, _+_, _*_, _%_}
 use native.Mathlib.Omega.{arith}
@@ -17,7 +17,7 @@ use Rattle.whole.specs.Flag.{eqZ}
 use Rattle.whole.specs.Ring.{var, lit, _⊕_, _⊖_, ring}
 use Rattle.whole.specs.Bound.{Within}
 use Rattle.whole.specs.Order.{lt-intro}
-use Rattle.whole.specs.Tests.{cond-by, eqZ-true, lt-leZ}
+use Rattle.whole.specs.Tests.{cond-by, eqZ-true, lt-ltZ}
 use Rattle.sheet.specs.declared.Object.{Object}
 use Rattle.sheet.specs.declared.Point.{Point}
 use Rattle.sheet.specs.declared.Crossing.the-variants as crossing
@@ -138,10 +138,12 @@ sign-in (pos (suc (suc n))) h = absurd (omega (arith, h .within))
 sign-in (negsuc zero) h = refl
 sign-in (negsuc (suc n)) h = absurd (omega (arith, h .within))
 
-above-in : (n : ℕ) → sideRefusalIn (pos 100 +ℤ pos n) ≡ pos n
-above-in n =
-    let beyond = lt-leZ {a = pos (100 + n)} {b = pos 1} (lt-intro (98 + n) (ap pos (omega arith))) in
-    simp beyond (ring (pos n ∷ []) (lit 100 ⊕ var 0 ⊖ lit 100) (var 0) tt)
+refused-in : (n : ℕ) → among n ofSide ≡ true → Known (sideRefusalIn (pos 100 +ℤ pos n))
+refused-in zero e = absurd (true≢false (sym e))
+refused-in (suc n) e =
+    let above = lt-ltZ {a = pos 100} {b = pos (100 + suc n)} (lt-intro n refl) in
+    let rest : sideRefusalIn (pos 100 +ℤ pos (suc n)) ≡ pos (suc n) = simp above (ring (pos (suc n) ∷ []) (lit 100 ⊕ var 0 ⊖ lit 100) (var 0) tt) in
+    subst Known (sym rest) (one-among ofSide _ refl (one-of (suc n) e))
 
 side-known : (bs : List ℕ) (i x y : ℤ) → Known (sideRefusalIn (sideAnswer bs i x y))
 side-known bs i x y = go (side-answers bs i x y)
@@ -149,20 +151,19 @@ side-known bs i x y = go (side-answers bs i x y)
     go : {r : ℤ} → Answered (readDrawing bs) i x y r → Known (sideRefusalIn r)
     go (a-sign e f w) = subst Known (sym (sign-in _ w)) (one-of 0 refl)
     go (a-refusal o e) =
-        subst Known (sym (ap sideRefusalIn (e ∙ ap (λ (z : ℤ). pos 100 +ℤ z) (o .is)) ∙ above-in (o .number)))
-        (one-among ofSide _ refl (one-of (o .number) (o .one)))
+        subst (λ (z : ℤ). Known (sideRefusalIn z)) (sym (e ∙ ap (λ (z : ℤ). pos 100 +ℤ z) (o .is))) (refused-in (o .number) (o .one))
 
 -- ---- the calls
 
 calls : (P : ℤ → Type 0) → ((z : ℤ) → Known z → P z) → Calls P
 unfolding callFrom
 calls P f = record {
-  of-segment = λ κs a r e. f _ (known-answer _ _ (known-pair (a .0) (a .1 .0) (a .1 .1 .0) (a .1 .1 .1 .0)) e);
-  of-ray = λ κs a r e. f _ (known-answer _ _ (known-pair (a .0) (a .1 .0) (a .1 .1 .0) (a .1 .1 .1 .0)) e);
-  of-line = λ κs a r e. f _ (known-answer _ _ (known-pair (a .0) (a .1 .0) (a .1 .1 .0) (a .1 .1 .1 .0)) e);
+  of-segment = λ κs a r e. f _ (known-answer _ _ (known-pair _ _ _ _) e);
+  of-ray = λ κs a r e. f _ (known-answer _ _ (known-pair _ _ _ _) e);
+  of-line = λ κs a r e. f _ (known-answer _ _ (known-pair _ _ _ _) e);
   of-side = λ κs n r e. f _ (known-answer _ _ (known-side n (pos 0) (pos 0) (pos 0)) e);
-  of-pair-refusal = λ κs a r e. f _ (subst Known (sym e) (known-pair (a .0) (a .1 .0) (a .1 .1 .0) (a .1 .1 .1 .0)));
-  of-side-refusal = λ κs a r e. f _ (subst Known (sym e) (known-side (a .0) (a .1 .0) (a .1 .1 .0) (a .1 .1 .1 .0)));
+  of-pair-refusal = λ κs a r e. f _ (subst Known (sym e) (known-pair _ _ _ _));
+  of-side-refusal = λ κs a r e. f _ (subst Known (sym e) (known-side _ _ _ _));
   of-object-refusal = λ κs o r e. f _ (subst Known (sym (e .0)) (known-object o));
   of-list-refusal = λ κs l r e. f _ (subst Known (sym e) (known-list (l .now)));
   of-check-object = λ κs o r e. f _ (subst Known (sym e) (known-object o));

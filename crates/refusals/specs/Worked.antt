@@ -1,7 +1,7 @@
 -- Every number of the table is given, each by an example: what the contracts name (a crossing's refusal, a turn's, that of one object's rows,
--- of reading into a lent list) computed on it.
+-- of reading into a lent list) computed on it. And what the answers of silvanelga_side refuse by.
 use mathlib.Core.Path.{_≡_, refl}
-use mathlib.Core.List.{List, [], _∷_, _++_}
+use mathlib.Core.List.{List, [], _∷_}
 use Prim.Native.Nat.{ℕ}
 use lib.IntN.{ℤ, pos}
 use lib.ListN.{replicate}
@@ -16,10 +16,11 @@ use Rattle.sheet.specs.Signs.{turnRefusal}
 use Rattle.sheet.specs.Crossing.{crossingRefusal}
 use Rattle.sheet.specs.Answers.{objectNumbers}
 use Rattle.sheet.specs.Lists.{firstRefusal, listRefusal}
-use Rattle.sheet.specs.Cases.{object, segment, side, point, at}
+use Rattle.sheet.specs.Cases.{minus, object, segment, side, point, at}
 use Rattle.store.specs.Stored.{readGroups, readCoordinate, readPoint, readSide, readTo, readPair, readShape, readObject, readObjects, readCount, readDrawing}
 use Rattle.store.specs.Answers.{readAnswer}
 use Rattle.listing.specs.Listing.{oneRefusal}
+use Rattle.refusals.specs.Calls.{sideRefusalIn}
 
 pub data Met (n : ℕ) : Type 0 where
   by-crossing : (a b : Object) → crossingRefusal a b ≡ pos n → Met n
@@ -53,3 +54,14 @@ each-met =
     (more (by-rows (replicate 2565 (pos 0)) 0 refl)
     (more (by-rows (objectNumbers fine) 1 refl)
     (more (by-rows (pos 4 ∷ []) 0 refl) none))))))))))))
+
+pub record WorkedSide : Type 0 where
+  -- "-1, 0, 1, or 100 plus the refusal"
+  signs : (sideRefusalIn (minus 1) ≡ pos 0) × (sideRefusalIn (pos 0) ≡ pos 0) × (sideRefusalIn (pos 1) ≡ pos 0)
+  hundred-more : (sideRefusalIn (pos 101) ≡ pos 1) × (sideRefusalIn (pos 113) ≡ pos 13)
+  -- 12 is seen as it is and behind the hundred; what is neither a sign nor above 100 is no refusal of the table
+  twelve-seen : (sideRefusalIn (pos 12) ≡ pos 12) × (sideRefusalIn (pos 112) ≡ pos 12)
+  neither : (sideRefusalIn (pos 100) ≡ pos 100) × (sideRefusalIn (pos 2) ≡ pos 2) × (sideRefusalIn (minus 2) ≡ minus 2)
+
+pub worked-side : WorkedSide
+worked-side = record { signs = (refl, refl, refl); hundred-more = (refl, refl); twelve-seen = (refl, refl); neither = (refl, refl, refl) }
