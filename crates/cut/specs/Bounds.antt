@@ -13,13 +13,15 @@ touchNeed = 16000000
 abbrev pub crossingNeed : ℕ
 crossingNeed = 64000000000
 
--- order, equal numbers: n w′ - n′ w of a standard point and a frame point, 64,000,000,000 times 4,000 and 8,000,000 times 32,000,000
+-- order, and equal numbers with it: a frame point's R - 8,000,000 against its w times a standard point's n, 4,000 times 64,000,000,000. At
+-- this R itself (0, 64000000000, 0, 0, 1) and (1, -8000000, -4000, 0, 4000) have the same x
 abbrev pub orderNeed : ℕ
-orderNeed = 512000000000000
+orderNeed = 256000008000000
 
--- side: of p and q within 2,000, and any point
+-- side: of the frame, n of a standard point; of p and q within 2,000, d n and w k of a frame point, each 4,000 times 8,000,000. At this R
+-- itself (0, -64000000000, 0, 0, 1) is on side 1, and its sign is 1
 abbrev pub sideNeed : ℕ
-sideNeed = 768000000000000
+sideNeed = 64000000000
 
 -- turn: six products of w, n and n of narrow points
 abbrev pub turnNeed : ℕ

@@ -1,101 +1,99 @@
--- One coordinate of two points, (m R + n)/w and (m′ R + n′)/w′, for every R above 512,000,000,000,000. To cite:
+-- One coordinate of two points, (m R + n)/w and (m′ R + n′)/w′, for every R above 256,000,008,000,000. To cite:
 --   Coordinate, x-of, y-of   the sizes that a point's coordinate has
---   value-two, value-one     the values of m R + n and of w as polynomials
---   gap, coordinate-at       the leading sign of the difference is its sign at R
---   coordinate-same          the same at one R: m and n are in proportion
-use mathlib.Core.Path.{_≡_, sym, _∙_, ap, ap₂}
+--   constant                 b R + c where b is 0: any R serves
+--   coordinate-at            the sign of the difference at R: of what stands before R, or of the rest where this is 0
+use mathlib.Core.Path.{_≡_, refl, sym, _∙_, ap}
 use mathlib.Core.List.{[], _∷_}
-use Prim.Native.Nat.{ℕ, _+_, _*_}
-use lib.Dec.{T, leb}
-use lib.IntN.{ℤ, pos, negℤ, _+ℤ_, _-ℤ_, _*ℤ_}
+use lib.IntN.{ℤ, pos, negℤ, _+ℤ_, _-ℤ_, _*ℤ_, +ℤ-idl, +ℤ-assoc, zero-*ℤ}
 use lib.Signed.{_<ℤ_}
-use Rattle.whole.specs.Laws.{sub-self}
-use Rattle.whole.specs.Ring.{var, con, _⊕_, _⊗_, ring}
 use Rattle.whole.specs.Reify.{reify, reading, solve, val-pos}
+use Rattle.whole.specs.Order.{lt-cert}
 use Rattle.whole.specs.Sign.{sgn}
-use Rattle.whole.specs.SignLaws.{sgn-zero, zero-of-sgn}
-use Rattle.whole.specs.Bound.{Within, w-add, w-sub, w-mul, w-pos, w-lit}
+use Rattle.whole.specs.SignLaws.{Signs, signs, minus, nought, plus, sgn-pos, pos-of-sgn, sgn-zero, sgn-neg-eq, sgn-mul-pos, neg-pp}
+use Rattle.whole.specs.Bound.{Within, w-neg, w-sub, w-mul, w-pos, w-lit}
 use Rattle.whole.specs.Cert.{z-eq, z-add, eq-cert}
-use Rattle.whole.specs.Poly.{Poly, value, _⊟_, _⊠_, first, leading}
-use Rattle.whole.specs.PolyLaws.{value-difference, value-product, first-zero}
-use Rattle.whole.specs.Lead.{lead, small, highest, _under_}
+use Rattle.whole.specs.Poly.{first}
+use Rattle.whole.specs.Lead.{small, lead-step}
 use Rattle.sheet.specs.declared.Point.{Point}
-use Rattle.sheet.specs.PointsLaws.{APoint, a-standard, a-frame, square-within}
+use Rattle.sheet.specs.PointsLaws.{APoint, a-standard, a-frame}
 use Rattle.cut.specs.Bounds.{orderNeed}
 
--- "Standard: mx = my = 0, w at most 32,000,000, nx and ny within 64,000,000,000 .. Frame: w at most 4,000 .. Each n is within 8,000,000"
+-- "Standard: mx = my = 0 .. nx and ny within 64,000,000,000 .. Frame: w at most 4,000 .. Each n is within 8,000,000"
 pub data Coordinate (m n w : ℤ) : Type 0 where
-  standard : m ≡ pos 0 → Within 64000000000 n → Within 32000000 w → Coordinate m n w
-  frame : Within 4000 m → Within 8000000 n → Within 4000 w → Coordinate m n w
+  standard : m ≡ pos 0 → Within 64000000000 n → pos 0 <ℤ w → Coordinate m n w
+  frame : Within 8000000 n → Within 4000 w → Coordinate m n w
 
 pub x-of : {p : Point} → APoint p → Coordinate (p .mx) (p .nx) (p .w)
-x-of (a-standard s e) = standard (s .no-mx) (s .in-nx) (s .in-w .at-most)
-x-of (a-frame f e) = frame (square-within (f .in-x) (f .slim .in-w .at-most)) (f .slim .in-nx) (f .slim .in-w .at-most)
+x-of (a-standard s e) = standard (s .no-mx) (s .in-nx) (s .in-w .above)
+x-of (a-frame f e) = frame (f .slim .in-nx) (f .slim .in-w .at-most)
 
 pub y-of : {p : Point} → APoint p → Coordinate (p .my) (p .ny) (p .w)
-y-of (a-standard s e) = standard (s .no-my) (s .in-ny) (s .in-w .at-most)
-y-of (a-frame f e) = frame (square-within (f .in-y) (f .slim .in-w .at-most)) (f .slim .in-ny) (f .slim .in-w .at-most)
+y-of (a-standard s e) = standard (s .no-my) (s .in-ny) (s .in-w .above)
+y-of (a-frame f e) = frame (f .slim .in-ny) (f .slim .in-w .at-most)
 
--- ---- values
+pub constant : (R b c : ℤ) → b ≡ pos 0 → sgn (b *ℤ R +ℤ c) ≡ first (sgn b) (sgn c)
+constant R b c e = simp (e, zero-*ℤ, +ℤ-idl, sgn-zero)
 
-pub value-two : (R m n : ℤ) → value (n ∷ m ∷ []) R ≡ m *ℤ R +ℤ n
-value-two R m n = ring (R ∷ m ∷ n ∷ []) ((con (pos 0) ⊗ var 0 ⊕ var 1) ⊗ var 0 ⊕ var 2) (var 1 ⊗ var 0 ⊕ var 2) tt
+module _ {R : ℤ} (hR : pos orderNeed <ℤ R) where
+  -- ---- a frame point's m R + n, times w, against a number k with no R in it: 64,000,000,000 times 4,000 at most
 
-pub value-one : (R w : ℤ) → value (w ∷ []) R ≡ w
-value-one R w = ring (R ∷ w ∷ []) (con (pos 0) ⊗ var 0 ⊕ var 1) (var 1) tt
+  -- m R + n is more than that, for it is R - 8,000,000 or more
+  far : (m n : ℤ) → pos 0 <ℤ m → Within 8000000 n → pos 256000000000000 <ℤ (m *ℤ R +ℤ n)
+  far m n hm hn =
+      lt-cert _
+      (pos-of-sgn (lead-step m (n -ℤ pos 256000000000000) R (small (w-sub hn (w-pos 256000000000000)) hR)
+      ∙ ap (λ (s : ℤ). first s (sgn (n -ℤ pos 256000000000000))) (sgn-pos hm)))
+      (+ℤ-assoc (m *ℤ R) n (negℤ (pos 256000000000000)))
 
--- b R + c where b is 0: any R serves
-constant : (R b c : ℤ) → b ≡ pos 0 → sgn (value (c ∷ b ∷ []) R) ≡ leading (c ∷ b ∷ [])
-constant R b c e =
-    ap sgn
-    (value-two R b c ∙ eq-cert _ (z-eq R e) (reify (b ∷ c ∷ R ∷ []) (λ ρ v. simp (reading, v 0, v 1, v 2, val-pos ρ) (solve _ _ _ tt))))
-    ∙ sym (ap (λ (s : ℤ). first s (sgn c)) (ap sgn e ∙ sgn-zero))
+  outweighs : (m n w k : ℤ) → pos 0 <ℤ m → Within 8000000 n → pos 0 <ℤ w → Within 256000000000000 k
+      → sgn (w *ℤ (m *ℤ R +ℤ n) +ℤ k) ≡ pos 1
+  outweighs m n w k hm hn hw hk =
+      lead-step w k (m *ℤ R +ℤ n) (small hk (far m n hm hn)) ∙ ap (λ (s : ℤ). first s (sgn k)) (sgn-pos hw)
 
--- ---- the difference
+  -- so m decides; where it is 0 there is no R
+  frame-leads : (m n w k : ℤ) {b c : ℤ} → Within 8000000 n → pos 0 <ℤ w → Within 256000000000000 k → b ≡ m *ℤ w → c ≡ n *ℤ w +ℤ k
+      → sgn (b *ℤ R +ℤ c) ≡ first (sgn b) (sgn c)
+  frame-leads m n w k {b} {c} hn hw hk eb ec = go (signs m)
+    where
+      by-m : {s : ℤ} → sgn m ≡ s → first s (sgn c) ≡ first (sgn b) (sgn c)
+      by-m e = sym (ap (λ (s : ℤ). first s (sgn c)) (ap sgn eb ∙ sgn-mul-pos m w hw ∙ e))
 
-abbrev pub gap : ℤ → ℤ → ℤ → ℤ → ℤ → ℤ → Poly
-gap m n w m′ n′ w′ = (n ∷ m ∷ []) ⊠ (w′ ∷ []) ⊟ (n′ ∷ m′ ∷ []) ⊠ (w ∷ [])
+      go : Signs m → sgn (b *ℤ R +ℤ c) ≡ first (sgn b) (sgn c)
+      go (nought z e) = constant R b c (eb ∙ ap (λ (x : ℤ). x *ℤ w) z ∙ zero-*ℤ w)
+      go (plus h e) =
+          ap sgn (eq-cert _ (z-add (z-eq R eb) (z-eq (pos 1) ec))
+          (reify (b ∷ c ∷ m ∷ n ∷ w ∷ k ∷ R ∷ []) (λ ρ v. simp (reading, v 0, v 1, v 2, v 3, v 4, v 5, v 6, val-pos ρ) (solve _ _ _ tt))))
+          ∙ outweighs m n w k h hn hw hk
+          ∙ by-m e
+      go (minus h e) =
+          ap sgn (eq-cert _ (z-add (z-eq R eb) (z-eq (pos 1) ec))
+          (reify (b ∷ c ∷ m ∷ n ∷ w ∷ k ∷ R ∷ []) (λ ρ v. simp (reading, v 0, v 1, v 2, v 3, v 4, v 5, v 6, val-pos ρ) (solve _ _ _ tt))))
+          ∙ sgn-neg-eq (w *ℤ (negℤ m *ℤ R +ℤ negℤ n) +ℤ negℤ k)
+          ∙ ap negℤ (outweighs (negℤ m) (negℤ n) w (negℤ k) (neg-pp h) (w-neg hn) hw (w-neg hk))
+          ∙ by-m e
 
-module _ (R m n w m′ n′ w′ : ℤ) where
-  gap-value : value (gap m n w m′ n′ w′) R ≡ (m *ℤ R +ℤ n) *ℤ w′ -ℤ (m′ *ℤ R +ℤ n′) *ℤ w
-  gap-value =
-      value-difference ((n ∷ m ∷ []) ⊠ (w′ ∷ [])) ((n′ ∷ m′ ∷ []) ⊠ (w ∷ [])) R
-      ∙ ap₂ (λ (x y : ℤ). x -ℤ y)
-      (value-product (n ∷ m ∷ []) (w′ ∷ []) R ∙ ap₂ (λ (x y : ℤ). x *ℤ y) (value-two R m n) (value-one R w′))
-      (value-product (n′ ∷ m′ ∷ []) (w ∷ []) R ∙ ap₂ (λ (x y : ℤ). x *ℤ y) (value-two R m′ n′) (value-one R w))
+  -- ---- the difference
 
-  -- neither has an m
-  no-m : m ≡ pos 0 → m′ ≡ pos 0 → sgn (value (gap m n w m′ n′ w′) R) ≡ leading (gap m n w m′ n′ w′)
-  no-m e e′ =
-      constant R (m *ℤ w′ +ℤ pos 0 -ℤ (m′ *ℤ w +ℤ pos 0)) (n *ℤ w′ +ℤ pos 0 -ℤ (n′ *ℤ w +ℤ pos 0))
-      (eq-cert _ (z-add (z-eq w′ e) (z-eq (negℤ w) e′))
-      (reify (m ∷ w ∷ m′ ∷ w′ ∷ []) (λ ρ v. simp (reading, v 0, v 1, v 2, v 3, val-pos ρ) (solve _ _ _ tt))))
-
-  module _ (hR : pos orderNeed <ℤ R) where
-    -- n w′ and n′ w are small enough; m plays no part
-    by-size : {a b c d : ℕ} → Within a n → Within b w → Within c n′ → Within d w′
-        → T (leb (a * d + 0 + (c * b + 0)) orderNeed) → sgn (value (gap m n w m′ n′ w′) R) ≡ leading (gap m n w m′ n′ w′)
-    by-size ha hb hc hd t =
-        lead R (small (w-lit (w-sub (w-add (w-mul ha hd) (w-pos 0)) (w-add (w-mul hc hb) (w-pos 0))) t) hR under highest)
-
-    sign-at : Coordinate m n w → Coordinate m′ n′ w′ → sgn (value (gap m n w m′ n′ w′) R) ≡ leading (gap m n w m′ n′ w′)
-    sign-at (standard e hn hw) (standard e′ hn′ hw′) = no-m e e′
-    sign-at (standard e hn hw) (frame hm′ hn′ hw′) = by-size hn hw hn′ hw′ tt
-    sign-at (frame hm hn hw) (standard e′ hn′ hw′) = by-size hn hw hn′ hw′ tt
-    sign-at (frame hm hn hw) (frame hm′ hn′ hw′) = by-size hn hw hn′ hw′ tt
+  module _ (m n w m′ n′ w′ : ℤ) where
+    leads : Coordinate m n w → Coordinate m′ n′ w′
+        → sgn ((m *ℤ w′ -ℤ m′ *ℤ w) *ℤ R +ℤ (n *ℤ w′ -ℤ n′ *ℤ w)) ≡ first (sgn (m *ℤ w′ -ℤ m′ *ℤ w)) (sgn (n *ℤ w′ -ℤ n′ *ℤ w))
+    leads (standard e hn hw) (standard e′ hn′ hw′) =
+        constant R (m *ℤ w′ -ℤ m′ *ℤ w) (n *ℤ w′ -ℤ n′ *ℤ w)
+        (eq-cert _ (z-add (z-eq w′ e) (z-eq (negℤ w) e′))
+        (reify (m ∷ w ∷ m′ ∷ w′ ∷ []) (λ ρ v. simp (reading, v 0, v 1, v 2, v 3, val-pos ρ) (solve _ _ _ tt))))
+    leads (frame hn hw) (standard e′ hn′ hw′) =
+        frame-leads m n w′ (negℤ (n′ *ℤ w)) hn hw′ (w-neg (w-mul hn′ hw))
+        (eq-cert _ (z-eq (negℤ w) e′)
+        (reify (m ∷ w ∷ m′ ∷ w′ ∷ []) (λ ρ v. simp (reading, v 0, v 1, v 2, v 3, val-pos ρ) (solve _ _ _ tt)))) refl
+    leads (standard e hn hw) (frame hn′ hw′) =
+        frame-leads (negℤ m′) (negℤ n′) w (n *ℤ w′) (w-neg hn′) hw (w-mul hn hw′)
+        (eq-cert _ (z-eq w′ e) (reify (m ∷ w ∷ m′ ∷ w′ ∷ []) (λ ρ v. simp (reading, v 0, v 1, v 2, v 3, val-pos ρ) (solve _ _ _ tt))))
+        (reify (n ∷ w ∷ n′ ∷ w′ ∷ []) (λ ρ v. simp (reading, v 0, v 1, v 2, v 3) (solve _ _ _ tt)))
+    leads (frame hn hw) (frame hn′ hw′) =
+        lead-step (m *ℤ w′ -ℤ m′ *ℤ w) (n *ℤ w′ -ℤ n′ *ℤ w) R (small (w-lit (w-sub (w-mul hn hw′) (w-mul hn′ hw)) tt) hR)
 
     pub coordinate-at : Coordinate m n w → Coordinate m′ n′ w′
-        → leading (gap m n w m′ n′ w′) ≡ sgn ((m *ℤ R +ℤ n) *ℤ w′ -ℤ (m′ *ℤ R +ℤ n′) *ℤ w)
-    coordinate-at a b = sym (sign-at a b) ∙ ap sgn gap-value
-
-    pub coordinate-same : Coordinate m n w → Coordinate m′ n′ w′ → (m *ℤ R +ℤ n) *ℤ w′ ≡ (m′ *ℤ R +ℤ n′) *ℤ w
-        → (w′ *ℤ m ≡ w *ℤ m′) × (w′ *ℤ n ≡ w *ℤ n′)
-    coordinate-same a b e =
-        let z =
-        first-zero (sgn (m *ℤ w′ +ℤ pos 0 -ℤ (m′ *ℤ w +ℤ pos 0))) (sgn (n *ℤ w′ +ℤ pos 0 -ℤ (n′ *ℤ w +ℤ pos 0)))
-        (coordinate-at a b ∙ ap sgn (ap (λ (x : ℤ). x -ℤ (m′ *ℤ R +ℤ n′) *ℤ w) e ∙ sub-self ((m′ *ℤ R +ℤ n′) *ℤ w)) ∙ sgn-zero) in
-        (ratio m m′ (zero-of-sgn (z .0)), ratio n n′ (zero-of-sgn (z .1)))
-      where
-        ratio : (x y : ℤ) → x *ℤ w′ +ℤ pos 0 -ℤ (y *ℤ w +ℤ pos 0) ≡ pos 0 → w′ *ℤ x ≡ w *ℤ y
-        ratio x y z =
-            eq-cert _ z (reify (x ∷ y ∷ w ∷ w′ ∷ []) (λ ρ v. simp (reading, v 0, v 1, v 2, v 3, val-pos ρ) (solve _ _ _ tt)))
+        → sgn ((m *ℤ R +ℤ n) *ℤ w′ -ℤ (m′ *ℤ R +ℤ n′) *ℤ w) ≡ first (sgn (m *ℤ w′ -ℤ m′ *ℤ w)) (sgn (n *ℤ w′ -ℤ n′ *ℤ w))
+    coordinate-at a b =
+        ap sgn (reify (R ∷ m ∷ n ∷ w ∷ m′ ∷ n′ ∷ w′ ∷ []) (λ ρ v. simp (reading, v 0, v 1, v 2, v 3, v 4, v 5, v 6) (solve _ _ _ tt)))
+        ∙ leads a b

@@ -20,7 +20,8 @@ use Rattle.cut.specs.Claims.{EndsHold, CrossingHolds, Holds, DemandAt}
 use Rattle.cut.specs.Same.{put-spot, on-same, upto-same, same-upto-left}
 use Rattle.cut.specs.EndsAt.{ends-at}
 use Rattle.cut.specs.OrderAt.{order-at}
-use Rattle.cut.specs.TurnAt.{turn-at, side-at}
+use Rattle.cut.specs.TurnAt.{turn-at}
+use Rattle.cut.specs.SideAt.{side-at}
 use Rattle.cut.specs.SameNumbers.{same-numbers-at}
 use Rattle.cut.specs.CrossingAt.{Tells, tells-none, tells-many, crossing-tells, point-said, none-when, many-when, point-when}
 

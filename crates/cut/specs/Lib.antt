@@ -17,6 +17,7 @@ pub mod Coordinate
 pub mod OrderAt
 pub mod SameNumbers
 pub mod TurnAt
+pub mod SideAt
 -- crossing
 pub mod Pieces
 pub mod Says

@@ -1,6 +1,7 @@
--- Order at R is the ordinary order of the places, for every R above 512,000,000,000,000. To cite:
---   order-at    order of two points: x first, then y, of their places
-use mathlib.Core.Path.{_≡_, refl, sym, ap₂, subst}
+-- Order at R is the ordinary order of the places, for every R above 256,000,008,000,000. To cite:
+--   order-at      order of two points: x first, then y, of their places
+--   order-apart   the same by the signs of their differences
+use mathlib.Core.Path.{_≡_, refl, sym, _∙_, ap₂, subst}
 use lib.IntN.{ℤ, pos, _*ℤ_}
 use lib.Signed.{_<ℤ_}
 use Rattle.whole.specs.Laws.{eq-of-sub}
@@ -13,6 +14,7 @@ use Rattle.whole.specs.Poly.{first}
 use Rattle.sheet.specs.declared.Point.{Point}
 use Rattle.sheet.specs.PointsLaws.{APoint}
 use Rattle.sheet.specs.Signs.{order}
+use Rattle.sheet.specs.Expansions.{order-is}
 use Rattle.cut.specs.Bounds.{orderNeed}
 use Rattle.cut.specs.Place.{Place, put}
 use Rattle.cut.specs.Ordinary.{Ordered, x-less, x-more, y-less, y-more, same}
@@ -51,12 +53,14 @@ ordered P Q = go (signs (apart (P .across) (Q .across))) (signs (apart (P .up) (
 
 -- ---- the law
 
+pub order-apart : {R : ℤ} → pos orderNeed <ℤ R → {p q : Point} → APoint p → APoint q → (h : pos 0 <ℤ p .w) (k : pos 0 <ℤ q .w)
+    → first (sgn (apart (put R p h .across) (put R q k .across))) (sgn (apart (put R p h .up) (put R q k .up))) ≡ order p q
+order-apart hR {p} {q} a b h k =
+    ap₂ first
+    (coordinate-at hR (p .mx) (p .nx) (p .w) (q .mx) (q .nx) (q .w) (x-of a) (x-of b))
+    (coordinate-at hR (p .my) (p .ny) (p .w) (q .my) (q .ny) (q .w) (y-of a) (y-of b))
+    ∙ sym (order-is p q)
+
 pub order-at : {R : ℤ} → pos orderNeed <ℤ R → {p q : Point} → APoint p → APoint q → (h : pos 0 <ℤ p .w) (k : pos 0 <ℤ q .w)
     → Ordered (put R p h) (put R q k) (order p q)
-unfolding order
-order-at {R} hR {p} {q} a b h k =
-    subst (Ordered (put R p h) (put R q k))
-    (sym (ap₂ first
-    (coordinate-at R (p .mx) (p .nx) (p .w) (q .mx) (q .nx) (q .w) hR (x-of a) (x-of b))
-    (coordinate-at R (p .my) (p .ny) (p .w) (q .my) (q .ny) (q .w) hR (y-of a) (y-of b))))
-    (ordered (put R p h) (put R q k))
+order-at {R} hR {p} {q} a b h k = subst (Ordered (put R p h) (put R q k)) (order-apart hR a b h k) (ordered (put R p h) (put R q k))
