@@ -1,11 +1,12 @@
 -- Demand 3. To cite:
 --   demand-3    every R of 2,000,000,000,000,000,000 or more: ends, order, turn, side, crossing, equal numbers (`Claims` says what each is)
 --   from-small  all but turn, for every R of 1,000,000,000,000,000 or more
+--   from-need   the same for every R above what order needs, which is the most
 --   at-the-bound, at-the-small-bound   the two bounds are among them
 use mathlib.Core.Path.{subst}
 use lib.IntN.{ℤ, pos}
-use lib.Signed.{_≤ℤ_, ltZ-yes, leZ-yes}
-use Rattle.whole.specs.Order.{≤-trans, <-≤-trans}
+use lib.Signed.{_≤ℤ_, _<ℤ_, ltZ-yes, leZ-yes}
+use Rattle.whole.specs.Order.{≤-trans, ≤-<-trans, <-≤-trans, <-≤}
 use Rattle.sheet.specs.declared.Object.{Object}
 use Rattle.sheet.specs.Refusal.{Accepted}
 use Rattle.sheet.specs.RefusalLaws.{accepted-drawn}
@@ -13,7 +14,7 @@ use Rattle.sheet.specs.PointsLaws.{point-is, narrow-is, point-sizes}
 use Rattle.sheet.specs.Ends.{firstEnd, lastEnd}
 use Rattle.sheet.specs.Signs.{sideSign}
 use Rattle.sheet.specs.Crossing.{none, many}
-use Rattle.cut.specs.Bounds.{endsNeed, crossingNeed}
+use Rattle.cut.specs.Bounds.{endsNeed, crossingNeed, orderNeed}
 use Rattle.cut.specs.Place.{spot}
 use Rattle.cut.specs.Cut.{MoreShared, NothingShared}
 use Rattle.cut.specs.Claims.{EndsHold, CrossingHolds, Holds, DemandAt}
@@ -54,17 +55,21 @@ crossing-holds {R} hR {a} {b} s t =
     nothing : Tells R a b none → NothingShared R a b
     nothing (tells-none n) = n
 
--- ends, order, side, crossing and equal numbers; only turn needs more
-pub from-small : (R : ℤ) → pos 1000000000000000 ≤ℤ R → Holds R
+-- ends, order, side, crossing and equal numbers: order needs the most of R, and only turn more
+pub from-need : (R : ℤ) → pos orderNeed <ℤ R → Holds R
 unfolding sideSign
-from-small R hR = record {
+from-need R hR = record {
   above = λ p i. point-sizes (point-is p .0 i) .in-w .above;
-  ends = λ o a. ends-hold (≤-trans (leZ-yes tt) hR) a;
-  orders = λ p q i j h k. order-at (<-≤-trans (ltZ-yes tt) hR) (point-is p .0 i) (point-is q .0 j) h k;
-  sides = λ o a s i l. side-at (<-≤-trans (ltZ-yes tt) hR) (accepted-drawn a) (point-is s .0 i) l;
-  crossings = λ a b s t. crossing-holds (≤-trans (leZ-yes tt) hR) s t;
-  same-numbers = λ p q i j h k e. same-numbers-at (<-≤-trans (ltZ-yes tt) hR) (point-is p .0 i) (point-is q .0 j) h k e;
+  ends = λ o a. ends-hold (≤-trans (leZ-yes tt) (<-≤ hR)) a;
+  orders = λ p q i j h k. order-at hR (point-is p .0 i) (point-is q .0 j) h k;
+  sides = λ o a s i l. side-at (≤-<-trans (leZ-yes tt) hR) (accepted-drawn a) (point-is s .0 i) l;
+  crossings = λ a b s t. crossing-holds (≤-trans (leZ-yes tt) (<-≤ hR)) s t;
+  same-numbers = λ p q i j h k e. same-numbers-at hR (point-is p .0 i) (point-is q .0 j) h k e;
 }
+
+-- "at every whole R of 1,000,000,000,000,000 or more"
+pub from-small : (R : ℤ) → pos 1000000000000000 ≤ℤ R → Holds R
+from-small R hR = from-need R (<-≤-trans (ltZ-yes tt) hR)
 
 -- "Take any whole R of 2,000,000,000,000,000,000 or more"
 pub demand-3 : (R : ℤ) → pos 2000000000000000000 ≤ℤ R → DemandAt R

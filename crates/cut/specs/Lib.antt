@@ -28,4 +28,5 @@ pub mod SidesMeet
 pub mod CrossingAt
 -- the demand
 pub mod Demand
+pub mod WorkedBounds
 pub mod Swap

@@ -1,7 +1,8 @@
--- Demand 3, of the code. To cite:
---   demand         for every R of 2,000,000,000,000,000,000 or more and every input, an answer that meets the contract of a public call
---                  is what the cut pieces at R say, or the refusal that the paper names
---   at-the-bound   that R is among them
+-- What the code's answers mean at a concrete R. To cite:
+--   smaller-frame  for every R of 1,000,000,000,000,000 or more and every input, an answer that meets the contract of ends, order, side or
+--                  crossing is what the cut pieces at R say, or the refusal that the paper names
+--   demand         demand 3: for every R of 2,000,000,000,000,000,000 or more the same, and turn too
+--   at-the-smaller-bound, at-the-bound   the two bounds are among them
 -- The contracts are the functions' own (`Post`), which the kernel's code is proved to meet.
 use mathlib.Core.Path.{_≡_, refl, sym, ap, _∙_, subst}
 use mathlib.Core.List.{List, [], _∷_, _++_}
@@ -24,8 +25,9 @@ use Rattle.sheet.specs.Answers.{answer, endsSay, signedSays, meetingNumbers, cr
 use Rattle.sheet.specs.AnswersLaws.{accepted, refused, ends-one, signed-one, crossing-one}
 use Rattle.sheet.specs.AcceptsLaws.{order-taken, turn-taken, side-taken, cross-taken, taken-cross}
 use Rattle.sheet.specs.Crossing.{Meeting, none, point, many, crossingOf, crossingRefusal}
-use Rattle.cut.specs.Claims.{EndsHold, CrossingHolds, DemandAt}
-use Rattle.cut.specs.Demand.{demand-3}
+use Rattle.whole.specs.Order.{≤-trans}
+use Rattle.cut.specs.Claims.{EndsHold, CrossingHolds, Holds, DemandAt}
+use Rattle.cut.specs.Demand.{from-small, demand-3}
 use Rattle.kernel.proofs.ends.ends_of.Reads as ends-of
 use Rattle.kernel.proofs.crossing.cross.Reads as cross
 use Rattle.kernel.proofs.signs.order_points.Reads as order-points
@@ -83,7 +85,7 @@ told-given many = tt
 
 -- ---- each call
 
-module _ (R : ℤ) (d : DemandAt R) where
+module _ (R : ℤ) (d : Holds R) where
   piece-ends : {o : Object} → EndsHold R o → PieceEnds R o (firstEnd o) (lastEnd o)
   piece-ends e = record {
     p-above = e .first-above;
@@ -97,7 +99,7 @@ module _ (R : ℤ) (d : DemandAt R) where
   ends-said : (o : Object) (r : Ends) → endsSay r ≡ answer (objectRefusal o) (numbers (firstEnd o) ++ numbers (lastEnd o)) → EndsSaid R o r
   ends-said o =
       said ends-one (EndsSaid R o) (ends.Both (firstEnd o) (lastEnd o)) (ends.Refused (objectRefusal o)) refl refl
-      (λ z. ends-given z (piece-ends (d .holds .ends o (record { accepted = z }))))
+      (λ z. ends-given z (piece-ends (d .ends o (record { accepted = z }))))
       (ends-refused refl)
 
   order-said : (p q : Point) (r : Signed) → signedSays r ≡ answer (orderRefusal p q) (order p q ∷ []) → OrderSaid R p q r
@@ -105,29 +107,18 @@ module _ (R : ℤ) (d : DemandAt R) where
       said signed-one (OrderSaid R p q) (signed.Sign (order p q)) (signed.Refused (orderRefusal p q)) refl refl
       (λ z.
       let t = order-taken p q z in
-      let h = d .holds .above p (t .0) in
-      let k = d .holds .above q (t .1) in
-      order-given z h k (d .holds .orders p q (t .0) (t .1) h k))
+      let h = d .above p (t .0) in
+      let k = d .above q (t .1) in
+      order-given z h k (d .orders p q (t .0) (t .1) h k))
       (order-refused refl)
-
-  turn-said : (p q t : Point) (r : Signed) → signedSays r ≡ answer (turnRefusal p q t) (turn p q t ∷ []) → TurnSaid R p q t r
-  turn-said p q t =
-      said signed-one (TurnSaid R p q t) (signed.Sign (turn p q t)) (signed.Refused (turnRefusal p q t)) refl refl
-      (λ z.
-      let i = turn-taken p q t z in
-      let h = d .holds .above p (i .0) in
-      let k = d .holds .above q (i .1) in
-      let l = d .holds .above t (i .2) in
-      turn-given z h k l (sym (d .turns p q t (i .0) (i .1) (i .2) (i .3) (i .4) (i .5) h k l)))
-      (turn-refused refl)
 
   side-said : (o : Object) (t : Point) (r : Signed) → signedSays r ≡ answer (sideSignRefusal o t) (sideSign o t ∷ []) → SideSaid R o t r
   side-said o t =
       said signed-one (SideSaid R o t) (signed.Sign (sideSign o t)) (signed.Refused (sideSignRefusal o t)) refl refl
       (λ z.
       let i = side-taken o t z in
-      let l = d .holds .above t (i .1) in
-      side-given z l (sym (d .holds .sides o (i .0) t (i .1) l)))
+      let l = d .above t (i .1) in
+      side-given z l (sym (d .sides o (i .0) t (i .1) l)))
       (side-refused refl)
 
   exactly : {a b : Object} → CrossingHolds R a b → Exactly R a b (told (crossingOf a b))
@@ -144,8 +135,19 @@ module _ (R : ℤ) (d : DemandAt R) where
       (a b : Object) (r : Crossing) → crossingSays r ≡ answer (crossingRefusal a b) (meetingNumbers (crossingOf a b)) → CrossSaid R a b r
   cross-said a b =
       said crossing-one (CrossSaid R a b) (told (crossingOf a b)) (crossing.Refused (crossingRefusal a b)) (told-says (crossingOf a b)) refl
-      (λ z. let t = cross-taken a b z in cross-given z (exactly (d .holds .crossings a b (t .0) (t .1))))
+      (λ z. let t = cross-taken a b z in cross-given z (exactly (d .crossings a b (t .0) (t .1))))
       (cross-refused refl)
+
+turn-said : (R : ℤ) → DemandAt R → (p q t : Point) (r : Signed) → signedSays r ≡ answer (turnRefusal p q t) (turn p q t ∷ []) → TurnSaid R p q t r
+turn-said R d p q t =
+    said signed-one (TurnSaid R p q t) (signed.Sign (turn p q t)) (signed.Refused (turnRefusal p q t)) refl refl
+    (λ z.
+    let i = turn-taken p q t z in
+    let h = d .holds .above p (i .0) in
+    let k = d .holds .above q (i .1) in
+    let l = d .holds .above t (i .2) in
+    turn-given z h k l (sym (d .turns p q t (i .0) (i .1) (i .2) (i .3) (i .4) (i .5) h k l)))
+    (turn-refused refl)
 
 cross-exactly : {R : ℤ} {a b : Object} {r : Crossing} → Accepted a → Accepted b → CrossSaid R a b r → Exactly R a b r
 cross-exactly s t (cross-refused e n) = absurd (n (e ∙ taken-cross s t))
@@ -153,30 +155,44 @@ cross-exactly s t (cross-given z h) = h
 
 -- ---- the demand
 
-pub record CodeAt (R : ℤ) : Type 0 where
+-- all but turn
+pub record CodeHolds (R : ℤ) : Type 0 where
   pub ends : (κs : Lfts 0) (o : Object) (r : Ends) → ends-of.Post κs (o, tt) r (o, tt) → EndsSaid R o r
   pub orders : (κs : Lfts 0) (p q : Point) (r : Signed) → order-points.Post κs (p, (q, tt)) r (p, (q, tt)) → OrderSaid R p q r
-  pub turns : (κs : Lfts 0) (p q t : Point) (r : Signed)
-      → turn-points.Post κs (p, (q, (t, tt))) r (p, (q, (t, tt))) → TurnSaid R p q t r
+  pub sides : (κs : Lfts 0) (o : Object) (t : Point) (r : Signed) → side-of.Post κs (o, (t, tt)) r (o, (t, tt)) → SideSaid R o t r
   pub crossings : (κs : Lfts 0) (a b : Object) (r : Crossing) → cross.Post κs (a, (b, tt)) r (a, (b, tt)) → CrossSaid R a b r
   -- two accepted objects are not refused
   pub accepted-crossings : (κs : Lfts 0) (a b : Object) (r : Crossing)
       → Accepted a → Accepted b → cross.Post κs (a, (b, tt)) r (a, (b, tt)) → Exactly R a b r
-  pub sides : (κs : Lfts 0) (o : Object) (t : Point) (r : Signed) → side-of.Post κs (o, (t, tt)) r (o, (t, tt)) → SideSaid R o t r
 
--- "Take any whole R of 2,000,000,000,000,000,000 or more"
-pub demand : (R : ℤ) → pos 2000000000000000000 ≤ℤ R → CodeAt R
-demand R hR =
-    let d = demand-3 R hR in
+pub record CodeAt (R : ℤ) : Type 0 where
+  pub holds : CodeHolds R
+  pub turns : (κs : Lfts 0) (p q t : Point) (r : Signed)
+      → turn-points.Post κs (p, (q, (t, tt))) r (p, (q, (t, tt))) → TurnSaid R p q t r
+
+-- "ends, order, side and crossing already agree with the cut pieces at every whole R of 1,000,000,000,000,000 or more"
+pub smaller-frame : (R : ℤ) → pos 1000000000000000 ≤ℤ R → CodeHolds R
+smaller-frame R hR =
+    let d = from-small R hR in
     record {
       ends = λ κs o r. ends-said R d o r;
       orders = λ κs p q r. order-said R d p q r;
-      turns = λ κs p q t r. turn-said R d p q t r;
+      sides = λ κs o t r. side-said R d o t r;
       crossings = λ κs a b r. cross-said R d a b r;
       accepted-crossings = λ κs a b r s t e. cross-exactly s t (cross-said R d a b r e);
-      sides = λ κs o t r. side-said R d o t r;
     }
 
--- the bound itself is taken
+-- "Take any whole R of 2,000,000,000,000,000,000 or more"
+pub demand : (R : ℤ) → pos 2000000000000000000 ≤ℤ R → CodeAt R
+demand R hR = record {
+  holds = smaller-frame R (≤-trans (leZ-yes tt) hR);
+  turns = λ κs p q t r. turn-said R (demand-3 R hR) p q t r;
+}
+
+-- ---- the bounds themselves are taken
+
+pub at-the-smaller-bound : CodeHolds (pos 1000000000000000)
+at-the-smaller-bound = smaller-frame (pos 1000000000000000) (leZ-yes tt)
+
 pub at-the-bound : CodeAt (pos 2000000000000000000)
 at-the-bound = demand (pos 2000000000000000000) (leZ-yes tt)

@@ -10,6 +10,7 @@ ghost use Rattle.sheet.specs.Answers.{answer, madeSays};
 ghost use Rattle.sheet.specs.Lists.{width};
 
 // An object of a sheet. Kind 1 is a segment, 2 a ray, 3 a line, each from p toward q; kind 4 is the frame's side of number px.
+#[repr(C)]
 pub struct Object {
     pub kind: i64,
     pub px: i64,
@@ -19,6 +20,7 @@ pub struct Object {
 }
 
 // A point: x is (mx R + nx)/w and y is (my R + ny)/w, where the frame goes from -R to R; what holds, holds for every large R.
+#[repr(C)]
 pub struct Point {
     pub mx: i64,
     pub nx: i64,

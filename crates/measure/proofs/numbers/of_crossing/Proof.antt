@@ -1,0 +1,67 @@
+use mathlib.Core.Path.{sym, _∙_, ap}
+use lib.IntN.{ℤ}
+use Rattle.whole.specs.Tests.{out-ok}
+use Rattle.sheet.specs.declared.Crossing.{Crossing}
+use Rattle.sheet.specs.declared.Crossing.the-variants.{Refused}
+use Rattle.sheet.specs.Answers.{crossingSays}
+use Rattle.measure.specs.declared.Answer.{Answer}
+use Rattle.measure.specs.Numbers.{answerOf}
+use borrow.Author.Needs.{needs}
+use Rattle.measure.proofs.numbers.of_crossing.Statement.{statement}
+use Rattle.measure.proofs.numbers.of_crossing.Tie as tie
+
+enum-told : tie.Need-enum-told
+enum-told c = search needs
+
+without-point-requires : tie.Need-without-point-requires
+without-point-requires c κs = search needs
+
+enum-known-crossing : tie.Need-enum-known-crossing
+enum-known-crossing c = search needs
+
+enum-told-2 : tie.Need-enum-told-2
+enum-told-2 c = search needs
+
+without-point-requires-2 : tie.Need-without-point-requires-2
+without-point-requires-2 c κs = search needs
+
+enum-known-crossing-2 : tie.Need-enum-known-crossing-2
+enum-known-crossing-2 c = search needs
+
+without-point-requires-3 : tie.Need-without-point-requires-3
+without-point-requires-3 c κs = search needs
+
+abbrev said : Crossing → Answer
+said s = answerOf (crossingSays s)
+
+returns : tie.Need-returns
+returns c = c .without-point .ensures ∙ sym (ap said (c .before .enum-told .given .1))
+
+returns-2 : tie.Need-returns-2
+returns-2 c = sym (ap said (c .before .crossing .given .1))
+
+returns-3 : tie.Need-returns-3
+returns-3 c = c .without-point2 .ensures ∙ sym (ap said (c .before .enum-told2 .given .1))
+
+returns-4 : tie.Need-returns-4
+returns-4 c =
+    let e = c .before .before .crossing2 .given in
+    c .without-point3 .ensures
+    ∙ ap (λ (n : ℤ). said (Refused n)) (out-ok (e .0 .0) (c .before .known-told2 .given .0 .1))
+    ∙ sym (ap said (e .1))
+
+pub of-crossing-spec : {M : Type 1} → statement M
+of-crossing-spec =
+    tie.close
+    (tie.spec
+    enum-told
+    without-point-requires
+    enum-known-crossing
+    enum-told-2
+    without-point-requires-2
+    enum-known-crossing-2
+    without-point-requires-3
+    returns
+    returns-2
+    returns-3
+    returns-4)

@@ -1,0 +1,48 @@
+use mathlib.Core.Path.{sym, _∙_, ap}
+use Rattle.whole.specs.Tests.{out-ok}
+use Rattle.sheet.specs.declared.Ends.{Ends}
+use Rattle.sheet.specs.Answers.{endsSay}
+use Rattle.measure.specs.declared.TwoEnds.{TwoEnds}
+use Rattle.measure.specs.Numbers.{twoEndsOf}
+use borrow.Author.Needs.{needs}
+use Rattle.measure.proofs.numbers.of_ends.Statement.{statement}
+use Rattle.measure.proofs.numbers.of_ends.Tie as tie
+
+enum-known-ends : tie.Need-enum-known-ends
+enum-known-ends c = search needs
+
+enum-known-ends-2 : tie.Need-enum-known-ends-2
+enum-known-ends-2 c = search needs
+
+no-point-requires : tie.Need-no-point-requires
+no-point-requires c κs = search needs
+
+no-point-requires-2 : tie.Need-no-point-requires-2
+no-point-requires-2 c κs = search needs
+
+abbrev said : Ends → TwoEnds
+said e = twoEndsOf (endsSay e)
+
+returns : tie.Need-returns
+returns c = sym (ap said (c .before .ends .given .1))
+
+returns-2 : tie.Need-returns-2
+returns-2 c =
+    let e = c .before .before .before .ends2 .given in
+    (λ i. record {
+      refusal = out-ok (e .0 .0) (c .before .before .known-told2 .given .0 .1) i;
+      first = c .before .no-point .ensures i;
+      last = c .no-point2 .ensures i;
+    })
+    ∙ sym (ap said (e .1))
+
+pub of-ends-spec : {M : Type 1} → statement M
+of-ends-spec =
+    tie.close
+    (tie.spec
+    enum-known-ends
+    enum-known-ends-2
+    no-point-requires
+    no-point-requires-2
+    returns
+    returns-2)

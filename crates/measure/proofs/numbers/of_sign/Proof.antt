@@ -1,0 +1,51 @@
+use mathlib.Core.Path.{sym, _∙_, ap}
+use lib.IntN.{ℤ}
+use Rattle.whole.specs.Tests.{out-ok}
+use Rattle.sheet.specs.declared.Signed.{Signed}
+use Rattle.sheet.specs.declared.Signed.the-variants.{Sign, Refused}
+use Rattle.sheet.specs.Answers.{signedSays}
+use Rattle.measure.specs.declared.Answer.{Answer}
+use Rattle.measure.specs.Numbers.{answerOf}
+use borrow.Author.Needs.{needs}
+use Rattle.measure.proofs.numbers.of_sign.Statement.{statement}
+use Rattle.measure.proofs.numbers.of_sign.Tie as tie
+
+enum-known-signed : tie.Need-enum-known-signed
+enum-known-signed c = search needs
+
+without-point-requires : tie.Need-without-point-requires
+without-point-requires c κs = search needs
+
+enum-known-signed-2 : tie.Need-enum-known-signed-2
+enum-known-signed-2 c = search needs
+
+without-point-requires-2 : tie.Need-without-point-requires-2
+without-point-requires-2 c κs = search needs
+
+abbrev said : Signed → Answer
+said s = answerOf (signedSays s)
+
+returns : tie.Need-returns
+returns c =
+    let e = c .before .before .signed .given in
+    c .without-point .ensures
+    ∙ ap (λ (n : ℤ). said (Sign n)) (out-ok (e .0 .0) (c .before .known-told .given .0 .1))
+    ∙ sym (ap said (e .1))
+
+returns-2 : tie.Need-returns-2
+returns-2 c =
+    let e = c .before .before .signed2 .given in
+    c .without-point2 .ensures
+    ∙ ap (λ (n : ℤ). said (Refused n)) (out-ok (e .0 .0) (c .before .known-told2 .given .0 .1))
+    ∙ sym (ap said (e .1))
+
+pub of-sign-spec : {M : Type 1} → statement M
+of-sign-spec =
+    tie.close
+    (tie.spec
+    enum-known-signed
+    without-point-requires
+    enum-known-signed-2
+    without-point-requires-2
+    returns
+    returns-2)
