@@ -64,8 +64,8 @@ def archive(name):
     return library
 
 
-def driver(name, *flags):
-    """A C program of tests/ that calls the crate `measure`; the command that runs it."""
-    library, program = archive('measure'), f'target/{name}'
+def driver(name, *flags, crate='measure'):
+    """A C program of tests/ that calls a crate; the command that runs it."""
+    library, program = archive(crate), f'target/{name}'
     subprocess.run([compiler(), '-O2', '-Wall', '-Wextra', *flags, '-static', f'tests/{name}.c', library, '-o', program], check=True)
     return emulator() + [program]

@@ -22,10 +22,10 @@ struct point { int64_t mx, nx, my, ny, w; };                /* x = (mx R + nx)/w
 struct ends { int64_t refusal; struct point first, last; };
 struct answer { int64_t refusal, number; struct point at; };  /* a sign; or 0, 1, 2 for none, point, many, and the point */
 
-struct ends silvanelga_measure_ends(struct object o);
-struct answer silvanelga_measure_order(struct point p, struct point q);
-struct answer silvanelga_measure_side(struct object o, struct point p);
-struct answer silvanelga_measure_cross(struct object a, struct object b);
+struct ends silvanelga_spot_ends(struct object o);
+struct answer silvanelga_spot_order(struct point p, struct point q);
+struct answer silvanelga_spot_side(struct object o, struct point p);
+struct answer silvanelga_spot_cross(struct object a, struct object b);
 
 enum { SEGMENT = 1, RAY, LINE, SIDE };
 enum { NONE, POINT, MANY };
@@ -239,7 +239,7 @@ static bool on_frame(struct place s)
 
 static struct ends hold_ends(struct object o)
 {
-    struct ends said = silvanelga_measure_ends(o);
+    struct ends said = silvanelga_spot_ends(o);
     struct piece due = cut(o);
     bool agrees = said.refusal == 0 && same(said.first, due.tail) && same(said.last, due.tip);
     if (count(ENDS, on_frame(due.tail) + on_frame(due.tip), agrees)) {
@@ -252,7 +252,7 @@ static struct ends hold_ends(struct object o)
 static void hold_order(struct point p, struct point q)
 {
     struct place a, b;
-    struct answer said = silvanelga_measure_order(p, q);
+    struct answer said = silvanelga_spot_order(p, q);
     int due = put(p, &a) && put(q, &b) ? in_order(a, b) : 0;
     if (count(ORDER, due + 1, said.refusal == 0 && said.number == due)) say_point(p), say_point(q), say_answer(said, due);
 }
@@ -260,7 +260,7 @@ static void hold_order(struct point p, struct point q)
 static void hold_side(struct object o, struct point p)
 {
     struct place at;
-    struct answer said = silvanelga_measure_side(o, p);
+    struct answer said = silvanelga_spot_side(o, p);
     int due = put(p, &at) ? side_of_piece(o, at) : 0;
     if (count(SIDES, due + 1, said.refusal == 0 && said.number == due)) say_object(o), say_point(p), say_answer(said, due);
 }
@@ -268,7 +268,7 @@ static void hold_side(struct object o, struct point p)
 static struct answer hold_crossing(struct object a, struct object b)
 {
     struct place at;
-    struct answer said = silvanelga_measure_cross(a, b);
+    struct answer said = silvanelga_spot_cross(a, b);
     int due = share(cut(a), cut(b), &at);
     bool agrees = said.refusal == 0 && said.number == due && (due != POINT || same(said.at, at));
     if (count(CROSSING, due, agrees)) say_object(a), say_object(b), say_answer(said, due);
@@ -298,9 +298,10 @@ static int64_t coordinate(enum sheet s)
 
 static struct object any_object(enum sheet s)
 {
-    struct object o = {any(SEGMENT, any(0, 3) ? LINE : SIDE), coordinate(s), coordinate(s), coordinate(s), coordinate(s)};
-    if (o.kind == SIDE) return (struct object){SIDE, any(1, 4), 0, 0, 0};
-    return o.px == o.qx && o.py == o.qy ? any_object(s) : o;
+    int64_t kind = any(SEGMENT, any(0, 3) ? LINE : SIDE);
+    if (kind == SIDE) return (struct object){SIDE, any(1, 4), 0, 0, 0};
+    int64_t px = coordinate(s), py = coordinate(s), qx = coordinate(s), qy = coordinate(s);
+    return px == qx && py == qy ? any_object(s) : (struct object){kind, px, py, qx, qy};
 }
 
 /* within `most` either way; of an extreme sheet 0 or at it */
@@ -323,7 +324,10 @@ static struct point reduced(struct point p)
 /* a standard point, or one on the frame: at R or -R in one coordinate, and in the square in the other */
 static struct point any_point(enum sheet s)
 {
-    if (any(0, 1)) return reduced((struct point){0, number(s, FAR), 0, number(s, FAR), any(0, 1) ? any(1, WIDEST) : 1});
+    if (any(0, 1)) {
+        int64_t nx = number(s, FAR), ny = number(s, FAR), w = any(0, 1) ? any(1, WIDEST) : 1;
+        return reduced((struct point){0, nx, 0, ny, w});
+    }
     int64_t w = any(0, 1) ? any(1, NARROW) : NARROW, edge = any(0, 1) ? w : -w;
     int64_t m = any(0, 1) ? any(-w, w) : any(-1, 1), n = number(s, NEAR);
     if (size(m) == w && sign(m) == sign(n)) n = -n;

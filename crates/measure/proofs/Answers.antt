@@ -6,20 +6,12 @@ use Prim.Native.Nat.{ℕ}
 use lib.IntN.{ℤ}
 use contract.Lifetimes.{Lfts}
 use denote.Ref.{RefT}
-use Rattle.sheet.specs.declared.Object.{Object}
-use Rattle.sheet.specs.declared.Point.{Point}
 use Rattle.measure.specs.declared.Shown.{Shown}
-use Rattle.measure.specs.declared.TwoEnds.{TwoEnds}
-use Rattle.measure.specs.declared.Answer.{Answer}
 use Rattle.measure.proofs.silvanelga_measure_list.Reads as measure-list
 use Rattle.measure.proofs.silvanelga_measure_read.Reads as measure-read
 use Rattle.measure.proofs.silvanelga_measure_write.Reads as measure-write
 use Rattle.measure.proofs.silvanelga_measure_place.Reads as measure-place
 use Rattle.measure.proofs.silvanelga_measure_box.Reads as measure-box
-use Rattle.measure.proofs.silvanelga_measure_ends.Reads as measure-ends
-use Rattle.measure.proofs.silvanelga_measure_order.Reads as measure-order
-use Rattle.measure.proofs.silvanelga_measure_side.Reads as measure-side
-use Rattle.measure.proofs.silvanelga_measure_cross.Reads as measure-cross
 
 pub measure-list-answer :
     (κs : Lfts 2) (list rows : RefT (List ℤ)) (r s : ℤ) (l m : RefT (List ℤ))
@@ -50,22 +42,3 @@ pub measure-box-answer :
     (κs : Lfts 1) (l : RefT (List ℤ)) (r s : Shown)
     → measure-box.Post κs (l, tt) r (l, tt) → measure-box.Post κs (l, tt) s (l, tt) → r ≡ s
 measure-box-answer κs l r s p q = p ∙ sym q
-
-pub measure-ends-answer :
-    (κs : Lfts 0) (o : Object) (r s : TwoEnds) → measure-ends.Post κs (o, tt) r (o, tt) → measure-ends.Post κs (o, tt) s (o, tt) → r ≡ s
-measure-ends-answer κs o r s p q = p ∙ sym q
-
-pub measure-order-answer :
-    (κs : Lfts 0) (a b : Point) (r s : Answer)
-    → measure-order.Post κs (a, (b, tt)) r (a, (b, tt)) → measure-order.Post κs (a, (b, tt)) s (a, (b, tt)) → r ≡ s
-measure-order-answer κs a b r s p q = p ∙ sym q
-
-pub measure-side-answer :
-    (κs : Lfts 0) (o : Object) (t : Point) (r s : Answer)
-    → measure-side.Post κs (o, (t, tt)) r (o, (t, tt)) → measure-side.Post κs (o, (t, tt)) s (o, (t, tt)) → r ≡ s
-measure-side-answer κs o t r s p q = p ∙ sym q
-
-pub measure-cross-answer :
-    (κs : Lfts 0) (a b : Object) (r s : Answer)
-    → measure-cross.Post κs (a, (b, tt)) r (a, (b, tt)) → measure-cross.Post κs (a, (b, tt)) s (a, (b, tt)) → r ≡ s
-measure-cross-answer κs a b r s p q = p ∙ sym q

@@ -1,7 +1,6 @@
 // Calls for bench/ and tests/, so that a C program can time the listing and the stored drawings, and compare places and boxes.
 mod numbers;
 
-use sheet::Object;
 use sheet::Point;
 ghost use mathlib.Core.Path.{_≡_};
 ghost use lib.ListN.{length};
@@ -11,7 +10,7 @@ ghost use Rattle.sheet.specs.Lists.{listRefusal};
 ghost use Rattle.listing.specs.Listing.{listed};
 ghost use Rattle.store.specs.Stored.{readDrawing};
 ghost use Rattle.store.specs.Answers.{readAnswer, readInto, writeAnswer, writeInto};
-ghost use Rattle.measure.specs.Numbers.{placeShown, boxShown, endsShown, orderShown, sideShown, crossingShown};
+ghost use Rattle.measure.specs.Numbers.{placeShown, boxShown};
 
 // A place or a box: the refusal or 0, the side number or the flag, and the floats, from the front.
 #[repr(C)]
@@ -22,22 +21,6 @@ pub struct Shown {
     pub second: f64,
     pub third: f64,
     pub fourth: f64,
-}
-
-// The two ends of an object: the refusal or 0, and the ends in its direction.
-#[repr(C)]
-pub struct TwoEnds {
-    pub refusal: i64,
-    pub first: Point,
-    pub last: Point,
-}
-
-// A sign or a crossing: the refusal or 0; the sign, or 0, 1 or 2 for none, point or many; and the point of a crossing.
-#[repr(C)]
-pub struct Answer {
-    pub refusal: i64,
-    pub number: i64,
-    pub at: Point,
 }
 
 #[no_mangle]
@@ -79,32 +62,4 @@ pub extern "C" fn silvanelga_measure_box(list: &[i64]) -> Shown
     ensures { λ r. ⌜ r ≡ boxShown (now (list .entry)) ⌝ }
 {
     numbers::of_box(screen::extents::box_of(list))
-}
-
-#[no_mangle]
-pub extern "C" fn silvanelga_measure_ends(o: Object) -> TwoEnds
-    ensures { λ r. ⌜ r ≡ endsShown o ⌝ }
-{
-    numbers::of_ends(kernel::ends::ends_of(o))
-}
-
-#[no_mangle]
-pub extern "C" fn silvanelga_measure_order(p: Point, q: Point) -> Answer
-    ensures { λ r. ⌜ r ≡ orderShown p q ⌝ }
-{
-    numbers::of_sign(kernel::signs::order_points(p, q))
-}
-
-#[no_mangle]
-pub extern "C" fn silvanelga_measure_side(o: Object, s: Point) -> Answer
-    ensures { λ r. ⌜ r ≡ sideShown o s ⌝ }
-{
-    numbers::of_sign(kernel::signs::side_of(o, s))
-}
-
-#[no_mangle]
-pub extern "C" fn silvanelga_measure_cross(a: Object, b: Object) -> Answer
-    ensures { λ r. ⌜ r ≡ crossingShown a b ⌝ }
-{
-    numbers::of_crossing(kernel::crossing::cross(a, b))
 }

@@ -32,8 +32,8 @@ use Rattle.screen.specs.declared.Boxed.{Boxed}
 use Rattle.screen.specs.Places.{placeSays}
 use Rattle.screen.specs.Extents.{boxedSays}
 use Rattle.measure.specs.declared.Shown.{Shown}
-use Rattle.measure.specs.declared.TwoEnds.{TwoEnds}
-use Rattle.measure.specs.declared.Answer.{Answer}
+use Rattle.spot.specs.declared.TwoEnds.{TwoEnds}
+use Rattle.spot.specs.declared.Answer.{Answer}
 use Rattle.sheet.proofs.Object.segment.Reads as segment
 use Rattle.sheet.proofs.Object.ray.Reads as ray
 use Rattle.sheet.proofs.Object.line.Reads as line
@@ -71,10 +71,10 @@ use Rattle.measure.proofs.silvanelga_measure_read.Reads as measure-read
 use Rattle.measure.proofs.silvanelga_measure_write.Reads as measure-write
 use Rattle.measure.proofs.silvanelga_measure_place.Reads as measure-place
 use Rattle.measure.proofs.silvanelga_measure_box.Reads as measure-box
-use Rattle.measure.proofs.silvanelga_measure_ends.Reads as measure-ends
-use Rattle.measure.proofs.silvanelga_measure_order.Reads as measure-order
-use Rattle.measure.proofs.silvanelga_measure_side.Reads as measure-side
-use Rattle.measure.proofs.silvanelga_measure_cross.Reads as measure-cross
+use Rattle.spot.proofs.silvanelga_spot_ends.Reads as spot-ends
+use Rattle.spot.proofs.silvanelga_spot_order.Reads as spot-order
+use Rattle.spot.proofs.silvanelga_spot_side.Reads as spot-side
+use Rattle.spot.proofs.silvanelga_spot_cross.Reads as spot-cross
 
 -- four or five numbers, as a call takes them
 abbrev pub Four : Type 0
@@ -145,10 +145,11 @@ pub record Calls (P : ℤ → Type 0) : Type 0 where
       → measure-write.Post κs (list, (out, tt)) r (list, (after, tt)) → P r
   pub of-measure-place : (κs : Lfts 0) (a : Five) (r : Shown) → measure-place.Post κs a r a → P (r .refusal)
   pub of-measure-box : (κs : Lfts 1) (l : RefT (List ℤ)) (r : Shown) → measure-box.Post κs (l, tt) r (l, tt) → P (r .refusal)
-  pub of-measure-ends : (κs : Lfts 0) (o : Object) (r : TwoEnds) → measure-ends.Post κs (o, tt) r (o, tt) → P (r .refusal)
-  pub of-measure-order : (κs : Lfts 0) (p q : Point) (r : Answer) → measure-order.Post κs (p, (q, tt)) r (p, (q, tt)) → P (r .refusal)
-  pub of-measure-side : (κs : Lfts 0) (o : Object) (s : Point) (r : Answer) → measure-side.Post κs (o, (s, tt)) r (o, (s, tt)) → P (r .refusal)
-  pub of-measure-cross : (κs : Lfts 0) (a b : Object) (r : Answer) → measure-cross.Post κs (a, (b, tt)) r (a, (b, tt)) → P (r .refusal)
+  -- spot: the calls for tests/spot_check.c
+  pub of-spot-ends : (κs : Lfts 0) (o : Object) (r : TwoEnds) → spot-ends.Post κs (o, tt) r (o, tt) → P (r .refusal)
+  pub of-spot-order : (κs : Lfts 0) (p q : Point) (r : Answer) → spot-order.Post κs (p, (q, tt)) r (p, (q, tt)) → P (r .refusal)
+  pub of-spot-side : (κs : Lfts 0) (o : Object) (s : Point) (r : Answer) → spot-side.Post κs (o, (s, tt)) r (o, (s, tt)) → P (r .refusal)
+  pub of-spot-cross : (κs : Lfts 0) (a b : Object) (r : Answer) → spot-cross.Post κs (a, (b, tt)) r (a, (b, tt)) → P (r .refusal)
 
 -- no call refuses by n
 abbrev pub Never : ℕ → Type 0

@@ -53,8 +53,8 @@ use Rattle.rowtext.specs.Put.{rowsRefusal}
 use Rattle.screen.specs.Told.{Told, answered}
 use Rattle.screen.specs.Places.{placeOf}
 use Rattle.measure.specs.declared.Shown.{Shown}
-use Rattle.measure.specs.declared.TwoEnds.{TwoEnds}
-use Rattle.measure.specs.declared.Answer.{Answer}
+use Rattle.spot.specs.declared.TwoEnds.{TwoEnds}
+use Rattle.spot.specs.declared.Answer.{Answer}
 use Rattle.viewer.specs.Answered.{ofSide, Answered, a-sign, a-refusal}
 use Rattle.viewer.specs.AnsweredLaws.{side-answers}
 use Rattle.viewer.specs.Calls.{sideAnswer}
@@ -206,10 +206,10 @@ calls P f = record {
   of-measure-write = λ κs list out after r e. f _ (known-written (list .now) out (e .0));
   of-measure-place = λ κs a r e. f _ (subst Known (sym (ap (λ (x : Shown). x .refusal) e ∙ told-refusal _ _ (place-told _))) (known-point _));
   of-measure-box = λ κs l r e. f _ (subst Known (sym (ap (λ (x : Shown). x .refusal) e ∙ told-refusal _ _ refl)) (known-list (l .now)));
-  of-measure-ends = λ κs o r e. f _ (known-shown _ _ (known-object o) (ap (λ (x : TwoEnds). x .refusal) e));
-  of-measure-order = λ κs p q r e. f _ (known-shown _ _ (known-order p q) (ap (λ (x : Answer). x .refusal) e));
-  of-measure-side = λ κs o s r e. f _ (known-shown _ _ (known-side-sign o s) (ap (λ (x : Answer). x .refusal) e));
-  of-measure-cross = λ κs a b r e. f _ (known-shown _ _ (known-crossing a b) (ap (λ (x : Answer). x .refusal) e));
+  of-spot-ends = λ κs o r e. f _ (known-shown _ _ (known-object o) (ap (λ (x : TwoEnds). x .refusal) e));
+  of-spot-order = λ κs p q r e. f _ (known-shown _ _ (known-order p q) (ap (λ (x : Answer). x .refusal) e));
+  of-spot-side = λ κs o s r e. f _ (known-shown _ _ (known-side-sign o s) (ap (λ (x : Answer). x .refusal) e));
+  of-spot-cross = λ κs a b r e. f _ (known-shown _ _ (known-crossing a b) (ap (λ (x : Answer). x .refusal) e));
 }
 
 -- "one of the numbered refusals"

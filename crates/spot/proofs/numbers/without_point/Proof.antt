@@ -1,8 +1,8 @@
 use Rattle.whole.specs.Tests.{out-ok}
-use Rattle.measure.specs.declared.Answer.{Answer}
+use Rattle.spot.specs.declared.Answer.{Answer}
 use borrow.Author.Needs.{needs}
-use Rattle.measure.proofs.numbers.without_point.Statement.{statement}
-use Rattle.measure.proofs.numbers.without_point.Tie as tie
+use Rattle.spot.proofs.numbers.without_point.Statement.{statement}
+use Rattle.spot.proofs.numbers.without_point.Tie as tie
 
 no-point-requires : tie.Need-no-point-requires
 no-point-requires c κs = search needs

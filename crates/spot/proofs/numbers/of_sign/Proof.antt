@@ -4,11 +4,11 @@ use Rattle.whole.specs.Tests.{out-ok}
 use Rattle.sheet.specs.declared.Signed.{Signed}
 use Rattle.sheet.specs.declared.Signed.the-variants.{Sign, Refused}
 use Rattle.sheet.specs.Answers.{signedSays}
-use Rattle.measure.specs.declared.Answer.{Answer}
-use Rattle.measure.specs.Numbers.{answerOf}
+use Rattle.spot.specs.declared.Answer.{Answer}
+use Rattle.spot.specs.Numbers.{answerOf}
 use borrow.Author.Needs.{needs}
-use Rattle.measure.proofs.numbers.of_sign.Statement.{statement}
-use Rattle.measure.proofs.numbers.of_sign.Tie as tie
+use Rattle.spot.proofs.numbers.of_sign.Statement.{statement}
+use Rattle.spot.proofs.numbers.of_sign.Tie as tie
 
 enum-known-signed : tie.Need-enum-known-signed
 enum-known-signed c = search needs

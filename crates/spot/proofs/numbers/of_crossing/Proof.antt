@@ -4,11 +4,11 @@ use Rattle.whole.specs.Tests.{out-ok}
 use Rattle.sheet.specs.declared.Crossing.{Crossing}
 use Rattle.sheet.specs.declared.Crossing.the-variants.{Refused}
 use Rattle.sheet.specs.Answers.{crossingSays}
-use Rattle.measure.specs.declared.Answer.{Answer}
-use Rattle.measure.specs.Numbers.{answerOf}
+use Rattle.spot.specs.declared.Answer.{Answer}
+use Rattle.spot.specs.Numbers.{answerOf}
 use borrow.Author.Needs.{needs}
-use Rattle.measure.proofs.numbers.of_crossing.Statement.{statement}
-use Rattle.measure.proofs.numbers.of_crossing.Tie as tie
+use Rattle.spot.proofs.numbers.of_crossing.Statement.{statement}
+use Rattle.spot.proofs.numbers.of_crossing.Tie as tie
 
 enum-told : tie.Need-enum-told
 enum-told c = search needs

@@ -2,11 +2,11 @@ use mathlib.Core.Path.{sym, _∙_, ap}
 use Rattle.whole.specs.Tests.{out-ok}
 use Rattle.sheet.specs.declared.Ends.{Ends}
 use Rattle.sheet.specs.Answers.{endsSay}
-use Rattle.measure.specs.declared.TwoEnds.{TwoEnds}
-use Rattle.measure.specs.Numbers.{twoEndsOf}
+use Rattle.spot.specs.declared.TwoEnds.{TwoEnds}
+use Rattle.spot.specs.Numbers.{twoEndsOf}
 use borrow.Author.Needs.{needs}
-use Rattle.measure.proofs.numbers.of_ends.Statement.{statement}
-use Rattle.measure.proofs.numbers.of_ends.Tie as tie
+use Rattle.spot.proofs.numbers.of_ends.Statement.{statement}
+use Rattle.spot.proofs.numbers.of_ends.Tie as tie
 
 enum-known-ends : tie.Need-enum-known-ends
 enum-known-ends c = search needs
