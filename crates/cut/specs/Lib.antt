@@ -4,6 +4,7 @@ pub mod Place
 pub mod Cut
 pub mod Ordinary
 pub mod Claims
+pub mod WorkedBounds
 -- lines, places and the square
 pub mod Line
 pub mod Same
@@ -28,5 +29,4 @@ pub mod SidesMeet
 pub mod CrossingAt
 -- the demand
 pub mod Demand
-pub mod WorkedBounds
 pub mod Swap

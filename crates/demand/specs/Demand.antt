@@ -3,11 +3,13 @@
 --                  crossing is what the cut pieces at R say, or the refusal that the paper names
 --   demand         demand 3: for every R of 2,000,000,000,000,000,000 or more the same, and turn too
 --   at-the-smaller-bound, at-the-bound   the two bounds are among them
+--   smallest       all but turn holds from b on exactly where b is above 256,000,008,000,000
 -- The contracts are the functions' own (`Post`), which the kernel's code is proved to meet.
 use mathlib.Core.Path.{_≡_, refl, sym, ap, _∙_, subst}
+use mathlib.Core.Logic.{_⊎_, inl, inr, _↔_}
 use mathlib.Core.List.{List, [], _∷_, _++_}
 use lib.IntN.{ℤ, pos, ℤ-discrete}
-use lib.Signed.{_≤ℤ_, leZ-yes}
+use lib.Signed.{_≤ℤ_, _<ℤ_, ltZ-yes, leZ-yes}
 use contract.Lifetimes.{Lfts}
 use Rattle.sheet.specs.declared.Object.{Object}
 use Rattle.sheet.specs.declared.Point.{Point}
@@ -20,14 +22,17 @@ use Rattle.sheet.specs.declared.Crossing.the-variants as crossing
 use Rattle.sheet.specs.Refusal.{Accepted, objectRefusal}
 use Rattle.sheet.specs.Points.{numbers}
 use Rattle.sheet.specs.Ends.{firstEnd, lastEnd}
+use Rattle.sheet.specs.Cases.{minus}
 use Rattle.sheet.specs.Signs.{order, turn, sideSign, orderRefusal, turnRefusal, sideSignRefusal}
 use Rattle.sheet.specs.Answers.{answer, endsSay, signedSays, meetingNumbers, crossingSays}
 use Rattle.sheet.specs.AnswersLaws.{accepted, refused, ends-one, signed-one, crossing-one}
 use Rattle.sheet.specs.AcceptsLaws.{order-taken, turn-taken, side-taken, cross-taken, taken-cross}
 use Rattle.sheet.specs.Crossing.{Meeting, none, point, many, crossingOf, crossingRefusal}
-use Rattle.whole.specs.Order.{≤-trans}
+use Rattle.whole.specs.Order.{≤-trans, <-≤-trans, le-or-lt}
 use Rattle.cut.specs.Claims.{EndsHold, CrossingHolds, Holds, DemandAt}
-use Rattle.cut.specs.Demand.{from-small, demand-3}
+use Rattle.cut.specs.Bounds.{orderNeed}
+use Rattle.cut.specs.WorkedBounds.{still, below, order-accepted, order-ours, not-before}
+use Rattle.cut.specs.Demand.{from-need, demand-3}
 use Rattle.kernel.proofs.ends.ends_of.Reads as ends-of
 use Rattle.kernel.proofs.crossing.cross.Reads as cross
 use Rattle.kernel.proofs.signs.order_points.Reads as order-points
@@ -170,10 +175,10 @@ pub record CodeAt (R : ℤ) : Type 0 where
   pub turns : (κs : Lfts 0) (p q t : Point) (r : Signed)
       → turn-points.Post κs (p, (q, (t, tt))) r (p, (q, (t, tt))) → TurnSaid R p q t r
 
--- "ends, order, side and crossing already agree with the cut pieces at every whole R of 1,000,000,000,000,000 or more"
-pub smaller-frame : (R : ℤ) → pos 1000000000000000 ≤ℤ R → CodeHolds R
-smaller-frame R hR =
-    let d = from-small R hR in
+-- order needs the most of R, and only turn more
+above-need : (R : ℤ) → pos orderNeed <ℤ R → CodeHolds R
+above-need R hR =
+    let d = from-need R hR in
     record {
       ends = λ κs o r. ends-said R d o r;
       orders = λ κs p q r. order-said R d p q r;
@@ -181,6 +186,10 @@ smaller-frame R hR =
       crossings = λ κs a b r. cross-said R d a b r;
       accepted-crossings = λ κs a b r s t e. cross-exactly s t (cross-said R d a b r e);
     }
+
+-- "ends, order, side and crossing already agree with the cut pieces at every whole R of 1,000,000,000,000,000 or more"
+pub smaller-frame : (R : ℤ) → pos 1000000000000000 ≤ℤ R → CodeHolds R
+smaller-frame R hR = above-need R (<-≤-trans (ltZ-yes tt) hR)
 
 -- "Take any whole R of 2,000,000,000,000,000,000 or more"
 pub demand : (R : ℤ) → pos 2000000000000000000 ≤ℤ R → CodeAt R
@@ -196,3 +205,20 @@ at-the-smaller-bound = smaller-frame (pos 1000000000000000) (leZ-yes tt)
 
 pub at-the-bound : CodeAt (pos 2000000000000000000)
 at-the-bound = demand (pos 2000000000000000000) (leZ-yes tt)
+
+-- ---- how small a frame may be
+
+-- at the need itself the code has two points in another order than their places
+code-fails : CodeHolds (pos orderNeed) → ⊥
+code-fails c = go (c .orders tt still below (signed.Sign (minus 1)) (sym (accepted _ order-accepted ∙ ap (λ (s : ℤ). pos 0 ∷ s ∷ []) order-ours)))
+  where
+    go : OrderSaid (pos orderNeed) still below (signed.Sign (minus 1)) → ⊥
+    go (order-given z h k o) = not-before h k o
+
+-- so from b on all but turn holds exactly where b is larger
+pub smallest : (b : ℤ) → ((R : ℤ) → b ≤ℤ R → CodeHolds R) ↔ (pos 256000008000000 <ℤ b)
+smallest b = (λ h. go h (le-or-lt b (pos orderNeed)), λ h R hR. above-need R (<-≤-trans h hR))
+  where
+    go : ((R : ℤ) → b ≤ℤ R → CodeHolds R) → (b ≤ℤ pos orderNeed) ⊎ (pos orderNeed <ℤ b) → pos orderNeed <ℤ b
+    go h (inl l) = absurd (code-fails (h (pos orderNeed) l))
+    go h (inr l) = l
