@@ -7,7 +7,7 @@ REACH, MOST = 2000, 512
 WIDTH, ROW = 5, 8                               # numbers of an object in a list, and of a row of a listing
 WIDEST, FAR = 32_000_000, 64_000_000_000        # w and n of a standard point
 NARROW, NEAR = 4_000, 8_000_000                 # w and n of a frame point
-FRAMES = (2 * 10**18, 3 * 10**18 + 7)
+FRAMES = (10**15, 3 * 10**18 + 7)               # the smallest frame that R-13 names, and one above that of demand 3
 REFUSALS = (*range(1, 12), 13, 14)              # the numbers that say no; 12 is taken out, and not used again
 
 
