@@ -18,7 +18,7 @@
 /* ---- the library: its answers, and nothing else */
 
 struct object { int64_t kind, px, py, qx, qy; };
-struct point { int64_t mx, nx, my, ny, w; };                /* x = (mx R + nx)/w, y = (my R + ny)/w */
+struct point { int64_t mx, nx, my, ny, w; };  /* x = (mx R + nx)/w, y = (my R + ny)/w */
 struct ends { int64_t refusal; struct point first, last; };
 struct answer { int64_t refusal, number; struct point at; };  /* a sign; or 0, 1, 2 for none, point, many, and the point */
 
@@ -32,9 +32,9 @@ enum { NONE, POINT, MANY };
 
 /* ---- the paper's limits */
 
-static const int64_t REACH = 2000;                  /* a coordinate that is given, either way */
-static const int64_t WIDEST = 32000000, FAR = 64000000000;  /* w and n of a standard point */
-static const int64_t NARROW = 4000, NEAR = 8000000;         /* w and n of a frame point */
+static const int64_t REACH = 2000;  /* of a given coordinate, either way */
+static const int64_t WIDEST = 32000000, FAR = 64000000000;  /* of a standard point's w, and of its n, either way */
+static const int64_t NARROW = 4000, NEAR = 8000000;  /* the same of a point on the frame */
 
 static int64_t R = 1000000000000000;
 
@@ -48,6 +48,11 @@ static int sign(int64_t a)
 static int64_t size(int64_t a)
 {
     return a < 0 ? -a : a;
+}
+
+static bool within(int64_t most, int64_t a)
+{
+    return -most <= a && a <= most;
 }
 
 /* the largest whole number that is not above a/w; w is above 0 */
@@ -84,7 +89,7 @@ struct place { int64_t x, y, w; };  /* x/w and y/w: x and y within 4,000 R and a
 /* where a point is at R; false for numbers that no point has */
 static bool put(struct point p, struct place *at)
 {
-    if (p.w < 1 || p.w > WIDEST || size(p.mx) > NARROW || size(p.my) > NARROW || size(p.nx) > FAR || size(p.ny) > FAR) return false;
+    if (p.w < 1 || p.w > WIDEST || !within(NARROW, p.mx) || !within(FAR, p.nx) || !within(NARROW, p.my) || !within(FAR, p.ny)) return false;
     *at = (struct place){p.mx * R + p.nx, p.my * R + p.ny, p.w};
     return true;
 }
@@ -336,7 +341,7 @@ static struct point any_point(enum sheet s)
 
 enum { OBJECTS = 6, POINTS = 3 * OBJECTS };
 
-/* The ends of a sheet's objects, what each two share, and of its points and as many others the order, and the side of an object. */
+/* The ends of a sheet's objects and what each two share; and of these points, with some others, the order and the side of an object. */
 static void hold_sheet(const struct object objects[OBJECTS], enum sheet s)
 {
     struct point points[POINTS];
@@ -370,14 +375,6 @@ static void hold_farthest(void)
     hold_order((struct point){0, FAR, 0, 0, 1}, (struct point){1, -NEAR, -NARROW, 0, NARROW});
 }
 
-static bool too_few(int64_t least)
-{
-    for (int k = 0; k < KINDS; k++) {
-        if (tally[k].held < least) return true;
-    }
-    return false;
-}
-
 int main(int argc, char **argv)
 {
     const int64_t largest = R;
@@ -388,7 +385,8 @@ int main(int argc, char **argv)
         return 2;
     }
     hold_farthest();
-    for (int at = 0; too_few(least); at++) {
+    /* of the answers on a sheet the ends are fewest */
+    for (int at = 0; tally[ENDS].held < least; at++) {
         struct object objects[OBJECTS];
         for (int i = 0; i < OBJECTS; i++) objects[i] = any_object(at % SHEETS);
         hold_sheet(objects, at % SHEETS);
