@@ -1,18 +1,17 @@
--- How small a frame may be: accepted objects and points, and an R at which their answer is not what the cut pieces say. Of side and order
--- this R is the need of `Bounds` itself: there the law fails, and above it it holds. To cite:
---   ends-fail         3,999,999: an end is outside of the square
---   touches-fail      4,000,000: it is in a corner, and on a side more than it should
---   crossings-fail    63,968,005,999: so is the point that two lines share
---   sides-fail        64,000,000,000: a point is on the line of a side, and not left of it
---   orders-fail       256,000,008,000,000: two points have one x, and the second is lower (`not-before`, of `still` and `below`)
---   turns-fail        1,023,871,872,008,004,000, so turn cannot have the smaller bound: three points are on one line
-use mathlib.Core.Path.{_≡_, refl, sym, _∙_, subst}
+-- How small a frame may be: accepted objects and points, what our answer to them is, and an R at which the cut pieces say something else. Of
+-- side and order this R is the need of `Bounds` itself: above it the law holds. `demand/specs/WorkedBounds` has it of the code. To cite:
+--   ends-..       at 3,999,999 an end is outside of the square
+--   touch-..      at 4,000,000 it is in a corner, and on a side more than it should
+--   crossing-..   at 63,968,005,999 the point that two lines share is outside of the square
+--   side-..       at 64,000,000,000 a point is on the line of a side, and not left of it
+--   order-..      at 256,000,008,000,000 two points have one x, and the second is lower
+--   turn-..       at 1,023,871,872,008,004,000, so turn cannot have the smaller bound, three points are on one line
+-- of which accepted, what we answer (ours), and what is so at that R (ordinary, outside, not-before)
+use mathlib.Core.Path.{_≡_, refl}
 use lib.IntN.{ℤ, pos, _*ℤ_}
 use lib.Signed.{_≤ℤ_, _<ℤ_, ltZ-yes, leZ-yes}
 use Rattle.whole.specs.Sign.{sgn}
 use Rattle.whole.specs.Divisor.{steps, gcd, gcdOf}
-use Rattle.whole.specs.Order.{pp-pos}
-use Rattle.whole.specs.Tests.{eqZ-false}
 use Rattle.sheet.specs.declared.Object.{Object}
 use Rattle.sheet.specs.declared.Point.{Point}
 use Rattle.sheet.specs.Figure.{Vec, Side, left, bottom, right, top, sideOf, figure}
@@ -23,13 +22,11 @@ use Rattle.sheet.specs.Ends.{farRaw, farEnd, lastEnd}
 use Rattle.sheet.specs.Signs.{order, turnPoly, turn, sideSign, orderRefusal, turnRefusal, sideSignRefusal}
 use Rattle.sheet.specs.Crossing.{pieces, withSide, withPiece, meeting, crossingOf, crossingRefusal}
 use Rattle.sheet.specs.Crossing as crossing
-use Rattle.sheet.specs.AcceptsLaws.{order-taken, turn-taken, side-taken, cross-taken}
 use Rattle.sheet.specs.Cases.{minus, line, side, point}
 use Rattle.cut.specs.Bounds.{sideNeed, orderNeed}
 use Rattle.cut.specs.Place.{Place, Spot, put, at, spot}
-use Rattle.cut.specs.Cut.{out, InSquare, On, on-line, on-side, Shared}
+use Rattle.cut.specs.Cut.{out, InSquare, On, on-line, on-side, Lies, Shared}
 use Rattle.cut.specs.Ordinary.{Ordered, x-less, y-less, y-more, determinant, signOf, tail, tip}
-use Rattle.cut.specs.Claims.{Holds, DemandAt}
 
 -- what is on a line is in the square
 within : {R : ℤ} {p q : Vec} {S : Spot} → On R (figure.line p q) S → InSquare R S
@@ -37,10 +34,10 @@ within (on-line l) = l .cut
 
 -- ---- ends: a line whose last end is above the square
 
-abbrev R-ends : ℤ
+abbrev pub R-ends : ℤ
 R-ends = pos 3999999
 
-abbrev steep : Object
+abbrev pub steep : Object
 steep = line (minus 2000) (pos 1) (pos 0) (pos 2000)
 
 pub ends-accepted : objectRefusal steep ≡ pos 0
@@ -51,19 +48,19 @@ pub ends-ours : lastEnd steep ≡ point (pos 2000) (pos 0) (pos 1999) (pos 40000
 unfolding sgn steps gcd gcdOf divided figure farRaw farEnd lastEnd
 ends-ours = refl
 
-pub ends-fail : Holds R-ends → ⊥
+pub ends-outside : (h : pos 0 <ℤ lastEnd steep .w) → Lies R-ends steep (put R-ends (lastEnd steep) h) → ⊥
 unfolding sgn steps gcd gcdOf divided figure farRaw farEnd lastEnd
-ends-fail d = within (d .ends steep (record { accepted = ends-accepted }) .last-on .lies) .inside top .le
+ends-outside h l = within (l .lies) .inside top .le
 
 -- ---- an end against a side: at this R the same line ends in the corner, and so shares it with the top side too
 
-abbrev R-touch : ℤ
+abbrev pub R-touch : ℤ
 R-touch = pos 4000000
 
-abbrev top-side : Object
+abbrev pub top-side : Object
 top-side = side (pos 4)
 
-abbrev corner : Place
+abbrev pub corner : Place
 corner = at R-touch R-touch
 
 pub touch-accepted : crossingRefusal steep top-side ≡ pos 0
@@ -90,23 +87,18 @@ touch-ordinary = record {
   on-second = record { lies = on-side (record { in-square = corner-in; edge = refl }) };
 }
 
-pub touches-fail : Holds R-touch → ⊥
-touches-fail d =
-    let a = cross-taken steep top-side touch-accepted in
-    d .crossings steep top-side (a .0) (a .1) .none-exactly .0 touch-ours .nothing corner touch-ordinary
-
 -- ---- crossing: two lines along opposite edges of the sheet, that meet left of the square
 
-abbrev R-crossing : ℤ
+abbrev pub R-crossing : ℤ
 R-crossing = pos 63968005999
 
-abbrev upper : Object
+abbrev pub upper : Object
 upper = line (minus 2000) (pos 2000) (pos 2000) (pos 1999)
 
-abbrev lower : Object
+abbrev pub lower : Object
 lower = line (minus 2000) (minus 1999) (pos 1999) (minus 2000)
 
-abbrev shared : Point
+abbrev pub shared : Point
 shared = point (pos 0) (minus 63968006000) (pos 0) (pos 15994001) (pos 1)
 
 pub crossing-accepted : crossingRefusal upper lower ≡ pos 0
@@ -117,21 +109,19 @@ pub crossing-ours : crossingOf upper lower ≡ crossing.point shared
 unfolding sgn steps gcd gcdOf divided figure pieces meeting crossingOf
 crossing-ours = refl
 
-pub crossings-fail : Holds R-crossing → ⊥
+pub crossing-outside : (h : pos 0 <ℤ shared .w) → Lies R-crossing upper (put R-crossing shared h) → ⊥
 unfolding figure
-crossings-fail d =
-    let a = cross-taken upper lower crossing-accepted in
-    within (d .crossings upper lower (a .0) (a .1) .point-said shared crossing-ours .only .is-shared .on-first .lies) .inside left .le
+crossing-outside h l = within (l .lies) .inside left .le
 
 -- ---- side: the farthest point to the left, and the left side
 
-abbrev R-side : ℤ
+abbrev pub R-side : ℤ
 R-side = pos sideNeed
 
-abbrev farthest : Point
+abbrev pub farthest : Point
 farthest = point (pos 0) (minus 64000000000) (pos 0) (pos 0) (pos 1)
 
-abbrev left-side : Object
+abbrev pub left-side : Object
 left-side = side (pos 1)
 
 pub side-accepted : sideSignRefusal left-side farthest ≡ pos 0
@@ -142,15 +132,10 @@ pub side-ours : sideSign left-side farthest ≡ pos 1
 unfolding sgn sideOf figure turnPoly turn sideSign
 side-ours = refl
 
-pub side-ordinary :
-    signOf (determinant (tail R-side (figure left-side)) (tip R-side (figure left-side)) (put R-side farthest (pp-pos 0))) ≡ pos 0
+pub side-ordinary : (l : pos 0 <ℤ farthest .w)
+    → signOf (determinant (tail R-side (figure left-side)) (tip R-side (figure left-side)) (put R-side farthest l)) ≡ pos 0
 unfolding sgn sideOf figure
-side-ordinary = refl
-
-pub sides-fail : Holds R-side → ⊥
-sides-fail d =
-    let a = side-taken left-side farthest side-accepted in
-    eqZ-false {a = pos 1} {b = pos 0} refl (sym side-ours ∙ sym (d .sides left-side (a .0) farthest (a .1) (pp-pos 0)) ∙ side-ordinary)
+side-ordinary l = refl
 
 -- ---- order: the x of the first is 64,000,000,000 for every R, that of the second, on the bottom side, (R - 8,000,000)/4,000
 
@@ -171,30 +156,25 @@ pub order-ours : order still below ≡ minus 1
 unfolding sgn order
 order-ours = refl
 
-pub order-ordinary : Ordered (put R-order still (pp-pos 0)) (put R-order below (pp-pos 3999)) (pos 1)
-order-ordinary = y-more (record { equal = refl }) (record { less = ltZ-yes tt })
+pub order-ordinary : (h : pos 0 <ℤ still .w) (k : pos 0 <ℤ below .w) → Ordered (put R-order still h) (put R-order below k) (pos 1)
+order-ordinary h k = y-more (record { equal = refl }) (record { less = ltZ-yes tt })
 
 pub not-before : (h : pos 0 <ℤ still .w) (k : pos 0 <ℤ below .w) → Ordered (put R-order still h) (put R-order below k) (minus 1) → ⊥
 not-before h k (x-less l) = l .less .lt
 not-before h k (y-less e l) = l .less .lt
 
-pub orders-fail : Holds R-order → ⊥
-orders-fail d =
-    let a = order-taken still below order-accepted in
-    not-before (pp-pos 0) (pp-pos 3999) (subst (Ordered _ _) order-ours (d .orders still below (a .0) (a .1) (pp-pos 0) (pp-pos 3999)))
-
 -- ---- turn: from one standard point to another, and a point on the right side
 
-abbrev R-turn : ℤ
+abbrev pub R-turn : ℤ
 R-turn = pos 1023871872008004000
 
-abbrev from : Point
+abbrev pub from : Point
 from = point (pos 0) (minus 7999999) (pos 0) (minus 7997999) (pos 4000)
 
-abbrev to : Point
+abbrev pub to : Point
 to = point (pos 0) (pos 8000000) (pos 0) (minus 7999999) (pos 3999)
 
-abbrev beside : Point
+abbrev pub beside : Point
 beside = point (pos 4000) (pos 0) (minus 1) (pos 8000000) (pos 4000)
 
 pub turn-accepted : turnRefusal from to beside ≡ pos 0
@@ -205,13 +185,7 @@ pub turn-ours : turn from to beside ≡ minus 1
 unfolding sgn turnPoly turn
 turn-ours = refl
 
-pub turn-ordinary : signOf (determinant (put R-turn from (pp-pos 3999)) (put R-turn to (pp-pos 3998)) (put R-turn beside (pp-pos 3999))) ≡ pos 0
+pub turn-ordinary : (h : pos 0 <ℤ from .w) (k : pos 0 <ℤ to .w) (l : pos 0 <ℤ beside .w)
+    → signOf (determinant (put R-turn from h) (put R-turn to k) (put R-turn beside l)) ≡ pos 0
 unfolding sgn
-turn-ordinary = refl
-
-pub turns-fail : DemandAt R-turn → ⊥
-turns-fail d =
-    let a = turn-taken from to beside turn-accepted in
-    eqZ-false {a = minus 1} {b = pos 0} refl (sym turn-ours
-    ∙ sym (d .turns from to beside (a .0) (a .1) (a .2) (a .3) (a .4) (a .5) (pp-pos 3999) (pp-pos 3998) (pp-pos 3999))
-    ∙ turn-ordinary)
+turn-ordinary h k l = refl

@@ -10,7 +10,6 @@ use mathlib.Core.Logic.{_⊎_, inl, inr, _↔_}
 use mathlib.Core.List.{List, [], _∷_, _++_}
 use lib.IntN.{ℤ, pos, ℤ-discrete}
 use lib.Signed.{_≤ℤ_, _<ℤ_, ltZ-yes, leZ-yes}
-use contract.Lifetimes.{Lfts}
 use Rattle.sheet.specs.declared.Object.{Object}
 use Rattle.sheet.specs.declared.Point.{Point}
 use Rattle.sheet.specs.declared.Ends.{Ends}
@@ -22,7 +21,6 @@ use Rattle.sheet.specs.declared.Crossing.the-variants as crossing
 use Rattle.sheet.specs.Refusal.{Accepted, objectRefusal}
 use Rattle.sheet.specs.Points.{numbers}
 use Rattle.sheet.specs.Ends.{firstEnd, lastEnd}
-use Rattle.sheet.specs.Cases.{minus}
 use Rattle.sheet.specs.Signs.{order, turn, sideSign, orderRefusal, turnRefusal, sideSignRefusal}
 use Rattle.sheet.specs.Answers.{answer, endsSay, signedSays, meetingNumbers, crossingSays}
 use Rattle.sheet.specs.AnswersLaws.{accepted, refused, ends-one, signed-one, crossing-one}
@@ -31,14 +29,9 @@ use Rattle.sheet.specs.Crossing.{Meeting, none, point, many, crossingOf, crossi
 use Rattle.whole.specs.Order.{≤-trans, <-≤-trans, le-or-lt}
 use Rattle.cut.specs.Claims.{EndsHold, CrossingHolds, Holds, DemandAt}
 use Rattle.cut.specs.Bounds.{orderNeed}
-use Rattle.cut.specs.WorkedBounds.{still, below, order-accepted, order-ours, not-before}
 use Rattle.cut.specs.Demand.{from-need, demand-3}
-use Rattle.kernel.proofs.ends.ends_of.Reads as ends-of
-use Rattle.kernel.proofs.crossing.cross.Reads as cross
-use Rattle.kernel.proofs.signs.order_points.Reads as order-points
-use Rattle.kernel.proofs.signs.turn_points.Reads as turn-points
-use Rattle.kernel.proofs.signs.side_of.Reads as side-of
-use Rattle.demand.specs.Said.{PieceEnds, EndsSaid, ends-refused, ends-given, OrderSaid, order-refused, order-given, TurnSaid, turn-refused, turn-given, SideSaid, side-refused, side-given, Exactly, CrossSaid, cross-refused, cross-given}
+use Rattle.demand.specs.Said.{PieceEnds, EndsSaid, ends-refused, ends-given, OrderSaid, order-refused, order-given, TurnSaid, turn-refused, turn-given, SideSaid, side-refused, side-given, Exactly, CrossSaid, cross-refused, cross-given, CodeHolds, CodeAt}
+use Rattle.demand.specs.WorkedBounds.{orders-fail}
 
 -- an answer that says what `answer` does is `given` where the refusal n is 0, and else `other`, which says n
 said :
@@ -160,21 +153,6 @@ cross-exactly s t (cross-given z h) = h
 
 -- ---- the demand
 
--- all but turn
-pub record CodeHolds (R : ℤ) : Type 0 where
-  pub ends : (κs : Lfts 0) (o : Object) (r : Ends) → ends-of.Post κs (o, tt) r (o, tt) → EndsSaid R o r
-  pub orders : (κs : Lfts 0) (p q : Point) (r : Signed) → order-points.Post κs (p, (q, tt)) r (p, (q, tt)) → OrderSaid R p q r
-  pub sides : (κs : Lfts 0) (o : Object) (t : Point) (r : Signed) → side-of.Post κs (o, (t, tt)) r (o, (t, tt)) → SideSaid R o t r
-  pub crossings : (κs : Lfts 0) (a b : Object) (r : Crossing) → cross.Post κs (a, (b, tt)) r (a, (b, tt)) → CrossSaid R a b r
-  -- two accepted objects are not refused
-  pub accepted-crossings : (κs : Lfts 0) (a b : Object) (r : Crossing)
-      → Accepted a → Accepted b → cross.Post κs (a, (b, tt)) r (a, (b, tt)) → Exactly R a b r
-
-pub record CodeAt (R : ℤ) : Type 0 where
-  pub holds : CodeHolds R
-  pub turns : (κs : Lfts 0) (p q t : Point) (r : Signed)
-      → turn-points.Post κs (p, (q, (t, tt))) r (p, (q, (t, tt))) → TurnSaid R p q t r
-
 -- order needs the most of R, and only turn more
 above-need : (R : ℤ) → pos orderNeed <ℤ R → CodeHolds R
 above-need R hR =
@@ -208,17 +186,10 @@ at-the-bound = demand (pos 2000000000000000000) (leZ-yes tt)
 
 -- ---- how small a frame may be
 
--- at the need itself the code has two points in another order than their places
-code-fails : CodeHolds (pos orderNeed) → ⊥
-code-fails c = go (c .orders tt still below (signed.Sign (minus 1)) (sym (accepted _ order-accepted ∙ ap (λ (s : ℤ). pos 0 ∷ s ∷ []) order-ours)))
-  where
-    go : OrderSaid (pos orderNeed) still below (signed.Sign (minus 1)) → ⊥
-    go (order-given z h k o) = not-before h k o
-
--- so from b on all but turn holds exactly where b is larger
+-- at what order needs it fails, so from b on all but turn holds exactly where b is larger
 pub smallest : (b : ℤ) → ((R : ℤ) → b ≤ℤ R → CodeHolds R) ↔ (pos 256000008000000 <ℤ b)
 smallest b = (λ h. go h (le-or-lt b (pos orderNeed)), λ h R hR. above-need R (<-≤-trans h hR))
   where
     go : ((R : ℤ) → b ≤ℤ R → CodeHolds R) → (b ≤ℤ pos orderNeed) ⊎ (pos orderNeed <ℤ b) → pos orderNeed <ℤ b
-    go h (inl l) = absurd (code-fails (h (pos orderNeed) l))
+    go h (inl l) = absurd (orders-fail (h (pos orderNeed) l))
     go h (inr l) = l

@@ -1,2 +1,3 @@
 pub mod Said
+pub mod WorkedBounds
 pub mod Demand

@@ -1,8 +1,10 @@
--- What demand 3 says of an answer of the code: refused by the paper's number, or not refused there, and what the cut pieces at R say.
+-- What demand 3 says of an answer of the code: refused by the paper's number, or not refused there, and what the cut pieces at R say. An answer
+-- is one that meets the call's contract (`Post`).
 use mathlib.Core.Path.{_≡_}
 use mathlib.Core.Logic.{_↔_}
 use lib.IntN.{ℤ, pos}
 use lib.Signed.{_<ℤ_}
+use contract.Lifetimes.{Lfts}
 use Rattle.sheet.specs.declared.Object.{Object}
 use Rattle.sheet.specs.declared.Point.{Point}
 use Rattle.sheet.specs.declared.Ends.{Ends}
@@ -12,13 +14,18 @@ use Rattle.sheet.specs.declared.Signed.the-variants as signed
 use Rattle.sheet.specs.declared.Crossing.{Crossing}
 use Rattle.sheet.specs.declared.Crossing.the-variants as crossing
 use Rattle.sheet.specs.Figure.{figure}
-use Rattle.sheet.specs.Refusal.{objectRefusal}
+use Rattle.sheet.specs.Refusal.{Accepted, objectRefusal}
 use Rattle.sheet.specs.Signs.{orderRefusal, turnRefusal, sideSignRefusal}
 use Rattle.sheet.specs.Crossing.{crossingRefusal}
 use Rattle.cut.specs.Place.{Place, SamePlace, put, spot}
 use Rattle.cut.specs.Cut.{Upto, Lies, OnlyShared, MoreShared, NothingShared}
 use Rattle.cut.specs.Claims.{SharedPoint}
 use Rattle.cut.specs.Ordinary.{Ordered, determinant, signOf, way, tail, tip}
+use Rattle.kernel.proofs.ends.ends_of.Reads as ends-of
+use Rattle.kernel.proofs.signs.order_points.Reads as order-points
+use Rattle.kernel.proofs.signs.turn_points.Reads as turn-points
+use Rattle.kernel.proofs.signs.side_of.Reads as side-of
+use Rattle.kernel.proofs.crossing.cross.Reads as cross
 
 -- "the two ends, put at R, are the cut piece's ends in its direction"
 pub record PieceEnds (R : ℤ) (o : Object) (p q : Point) : Type 0 where
@@ -67,3 +74,20 @@ pub record Exactly (R : ℤ) (a b : Object) (r : Crossing) : Type 0 where
 pub data CrossSaid (R : ℤ) (a b : Object) : Crossing → Type 0 where
   cross-refused : {n : ℤ} → n ≡ crossingRefusal a b → (n ≡ pos 0 → ⊥) → CrossSaid R a b (crossing.Refused n)
   cross-given : {r : Crossing} → crossingRefusal a b ≡ pos 0 → Exactly R a b r → CrossSaid R a b r
+
+-- ---- every call, at one R
+
+-- all but turn
+pub record CodeHolds (R : ℤ) : Type 0 where
+  pub ends : (κs : Lfts 0) (o : Object) (r : Ends) → ends-of.Post κs (o, tt) r (o, tt) → EndsSaid R o r
+  pub orders : (κs : Lfts 0) (p q : Point) (r : Signed) → order-points.Post κs (p, (q, tt)) r (p, (q, tt)) → OrderSaid R p q r
+  pub sides : (κs : Lfts 0) (o : Object) (t : Point) (r : Signed) → side-of.Post κs (o, (t, tt)) r (o, (t, tt)) → SideSaid R o t r
+  pub crossings : (κs : Lfts 0) (a b : Object) (r : Crossing) → cross.Post κs (a, (b, tt)) r (a, (b, tt)) → CrossSaid R a b r
+  -- two accepted objects are not refused
+  pub accepted-crossings : (κs : Lfts 0) (a b : Object) (r : Crossing)
+      → Accepted a → Accepted b → cross.Post κs (a, (b, tt)) r (a, (b, tt)) → Exactly R a b r
+
+pub record CodeAt (R : ℤ) : Type 0 where
+  pub holds : CodeHolds R
+  pub turns : (κs : Lfts 0) (p q t : Point) (r : Signed)
+      → turn-points.Post κs (p, (q, (t, tt))) r (p, (q, (t, tt))) → TurnSaid R p q t r
