@@ -7,7 +7,6 @@ use mathlib.Core.List.{[], _∷_}
 use lib.IntN.{ℤ, pos}
 use Rattle.whole.specs.Tests.{eqZ-false}
 use Rattle.sheet.specs.declared.Object.{Object}
-use Rattle.sheet.specs.declared.Point.{Point}
 use Rattle.sheet.specs.declared.Ends.the-variants as ends
 use Rattle.sheet.specs.declared.Signed.the-variants as signed
 use Rattle.sheet.specs.declared.Crossing.{Crossing}

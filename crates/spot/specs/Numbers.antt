@@ -2,7 +2,7 @@
 -- not.
 use mathlib.Core.List.{List, [], _∷_, _++_}
 use Prim.Native.Nat.{ℕ, _+_}
-use lib.IntN.{ℤ, pos}
+use lib.IntN.{ℤ}
 use Rattle.sheet.specs.declared.Object.{Object}
 use Rattle.sheet.specs.declared.Point.{Point}
 use Rattle.sheet.specs.Refusal.{objectRefusal}
@@ -15,12 +15,9 @@ use Rattle.sheet.specs.Answers.{answer, meetingNumbers}
 use Rattle.spot.specs.declared.TwoEnds.{TwoEnds}
 use Rattle.spot.specs.declared.Answer.{Answer}
 
--- five numbers of a list
+-- five numbers of a list, each 0 that it has not
 abbrev pub pointFrom : List ℤ → ℕ → Point
 pointFrom l i = record { mx = number l i; nx = number l (i + 1); my = number l (i + 2); ny = number l (i + 3); w = number l (i + 4) }
-
-abbrev pub noPoint : Point
-noPoint = record { mx = pos 0; nx = pos 0; my = pos 0; ny = pos 0; w = pos 0 }
 
 abbrev pub twoEndsOf : List ℤ → TwoEnds
 twoEndsOf l = record { refusal = number l 0; first = pointFrom l 1; last = pointFrom l 6 }

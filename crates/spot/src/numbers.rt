@@ -8,10 +8,10 @@ use sheet::Signed;
 ghost use mathlib.Core.Path.{_≡_};
 ghost use mathlib.Core.List.{[], _∷_};
 ghost use Rattle.sheet.specs.Answers.{endsSay, signedSays, crossingSays};
-ghost use Rattle.spot.specs.Numbers.{noPoint, twoEndsOf, answerOf};
+ghost use Rattle.spot.specs.Numbers.{pointFrom, twoEndsOf, answerOf};
 
 fn no_point() -> Point
-    ensures { λ r. ⌜ r ≡ noPoint ⌝ }
+    ensures { λ r. ⌜ r ≡ pointFrom [] 0 ⌝ }
 {
     Point {
         mx: 0,

@@ -1,5 +1,4 @@
 use Rattle.whole.specs.Tests.{out-ok}
-use Rattle.spot.specs.declared.Answer.{Answer}
 use borrow.Author.Needs.{needs}
 use Rattle.spot.proofs.numbers.without_point.Statement.{statement}
 use Rattle.spot.proofs.numbers.without_point.Tie as tie
@@ -10,7 +9,11 @@ no-point-requires c κs = search needs
 returns : tie.Need-returns
 returns c =
     let s = c .before in
-    λ i. record { refusal = out-ok (s .args .refusal) (s .fits .refusal .sfits) i; number = out-ok (s .args .number) (s .fits .number .sfits) i; at = c .no-point .ensures i }
+    λ i. record {
+      refusal = out-ok (s .args .refusal) (s .fits .refusal .sfits) i;
+      number = out-ok (s .args .number) (s .fits .number .sfits) i;
+      at = c .no-point .ensures i;
+    }
 
 pub without-point-spec : {M : Type 1} → statement M
 without-point-spec = tie.close (tie.spec no-point-requires returns)

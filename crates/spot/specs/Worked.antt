@@ -1,0 +1,67 @@
+-- What C is told, by document 01's numbers: "A refused call returns its number with every other number 0."
+use mathlib.Core.Path.{_≡_, refl}
+use lib.IntN.{ℤ, pos}
+use Rattle.whole.specs.Sign.{sgn}
+use Rattle.whole.specs.Divisor.{steps, gcd, gcdOf}
+use Rattle.sheet.specs.declared.Point.{Point}
+use Rattle.sheet.specs.Figure.{sideOf, figure}
+use Rattle.sheet.specs.Refusal.{pairRefusal, sideRefusal, objectRefusal}
+use Rattle.sheet.specs.Points.{divided, standard, narrow, frame, isPoint, pointRefusal}
+use Rattle.sheet.specs.Ends.{farRaw, farEnd, firstEnd, lastEnd}
+use Rattle.sheet.specs.Signs.{order, turnPoly, turn, sideSign, orderRefusal, sideSignRefusal}
+use Rattle.sheet.specs.Crossing.{pieces, withSide, withPiece, meeting, crossingOf, crossingRefusal}
+use Rattle.sheet.specs.Cases.{minus, object, segment, ray, line, side, point, at}
+use Rattle.spot.specs.declared.TwoEnds.{TwoEnds}
+use Rattle.spot.specs.declared.Answer.{Answer}
+use Rattle.spot.specs.Numbers.{endsShown, orderShown, sideShown, crossingShown}
+
+abbrev nought : Point
+nought = point (pos 0) (pos 0) (pos 0) (pos 0) (pos 0)
+
+abbrev both : Point → Point → TwoEnds
+both p q = record { refusal = pos 0; first = p; last = q }
+
+-- a sign, none or many; a point; a refusal
+abbrev plain : ℤ → Answer
+plain n = record { refusal = pos 0; number = n; at = nought }
+
+abbrev once : Point → Answer
+once p = record { refusal = pos 0; number = pos 1; at = p }
+
+abbrev refused : ℤ → Answer
+refused n = record { refusal = n; number = pos 0; at = nought }
+
+pub record Worked : Type 0 where
+  -- rows 1 and 2 of the worked rows, "in its direction"
+  ends :
+      endsShown (line (pos 0) (pos 3) (pos 1) (pos 4))
+      ≡ both (point (minus 1) (pos 0) (minus 1) (pos 3) (pos 1)) (point (pos 1) (minus 3) (pos 1) (pos 0) (pos 1))
+  no-ends : endsShown (segment (pos 2001) (pos 0) (pos 0) (pos 0)) ≡ record { refusal = pos 2; first = nought; last = nought }
+  -- row 7: "Order of (-1,-R) against (0,0): -1"
+  before : orderShown (point (pos 0) (minus 1) (minus 1) (pos 0) (pos 1)) (at (pos 0) (pos 0)) ≡ plain (minus 1)
+  no-order : orderShown (at (pos 0) (pos 0)) nought ≡ refused (pos 5)
+  -- "1 meaning left", and -1 right
+  left : sideShown (ray (pos 0) (pos 0) (pos 1) (pos 0)) (at (pos 0) (pos 1)) ≡ plain (pos 1)
+  right : sideShown (ray (pos 0) (pos 0) (pos 1) (pos 0)) (at (pos 0) (minus 1)) ≡ plain (minus 1)
+  no-side : sideShown (side (pos 5)) nought ≡ refused (pos 4)
+  -- "none, point or many": two opposite sides, row 8, a side with itself
+  none : crossingShown (side (pos 1)) (side (pos 3)) ≡ plain (pos 0)
+  point-of-two : crossingShown (ray (pos 0) (pos 0) (pos 1) (pos 0)) (ray (pos 0) (pos 0) (minus 1) (pos 0)) ≡ once (at (pos 0) (pos 0))
+  many : crossingShown (side (pos 1)) (side (pos 1)) ≡ plain (pos 2)
+  no-crossing : crossingShown (side (pos 1)) (object (pos 5) (pos 0) (pos 0) (pos 0) (pos 0)) ≡ refused (pos 1)
+
+pub worked : Worked
+unfolding sgn steps gcd gcdOf sideOf figure pairRefusal sideRefusal objectRefusal divided standard narrow frame isPoint pointRefusal farRaw farEnd firstEnd lastEnd order turnPoly turn sideSign orderRefusal sideSignRefusal pieces withSide withPiece meeting crossingOf crossingRefusal
+worked = record {
+  ends = refl;
+  no-ends = refl;
+  before = refl;
+  no-order = refl;
+  left = refl;
+  right = refl;
+  no-side = refl;
+  none = refl;
+  point-of-two = refl;
+  many = refl;
+  no-crossing = refl;
+}
