@@ -2,7 +2,7 @@
 --   ends-fail 3,999,999, touches-fail 4,000,000, crossings-fail 63,968,005,999, sides-fail 64,000,000,000, orders-fail 256,000,008,000,000
 --   turns-fail 1,023,871,872,008,004,000
 --   first-twice, last-twice   one end of a segment in the place of both is no answer, at R of 1,000,000,000,000,000
--- So what `Said` asks of each call is not met by every answer.
+-- So what `Said` asks of each call does not hold of every answer.
 use mathlib.Core.Path.{_≡_, refl, sym, _∙_, ap}
 use mathlib.Core.List.{[], _∷_}
 use lib.IntN.{ℤ, pos}
