@@ -7,8 +7,8 @@
 -- The contracts are the functions' own (`Post`), which the kernel's code is proved to meet.
 use mathlib.Core.Path.{_≡_, refl, sym, ap, _∙_, subst}
 use mathlib.Core.Logic.{_⊎_, inl, inr, _↔_}
-use mathlib.Core.List.{List, [], _∷_, _++_}
-use lib.IntN.{ℤ, pos, ℤ-discrete}
+use mathlib.Core.List.{[], _∷_, _++_}
+use lib.IntN.{ℤ, pos}
 use lib.Signed.{_≤ℤ_, _<ℤ_, ltZ-yes, leZ-yes}
 use Rattle.sheet.specs.declared.Object.{Object}
 use Rattle.sheet.specs.declared.Point.{Point}
@@ -23,7 +23,7 @@ use Rattle.sheet.specs.Points.{numbers}
 use Rattle.sheet.specs.Ends.{firstEnd, lastEnd}
 use Rattle.sheet.specs.Signs.{order, turn, sideSign, orderRefusal, turnRefusal, sideSignRefusal}
 use Rattle.sheet.specs.Answers.{answer, endsSay, signedSays, meetingNumbers, crossingSays}
-use Rattle.sheet.specs.AnswersLaws.{accepted, refused, ends-one, signed-one, crossing-one}
+use Rattle.sheet.specs.AnswersLaws.{by-answer, ends-one, signed-one, crossing-one}
 use Rattle.sheet.specs.AcceptsLaws.{order-taken, turn-taken, side-taken, cross-taken, taken-cross}
 use Rattle.sheet.specs.Crossing.{Meeting, none, point, many, crossingOf, crossingRefusal}
 use Rattle.whole.specs.Order.{≤-trans, <-≤-trans, le-or-lt}
@@ -32,17 +32,6 @@ use Rattle.cut.specs.Bounds.{orderNeed}
 use Rattle.cut.specs.Demand.{from-need, demand-3}
 use Rattle.demand.specs.Said.{PieceEnds, EndsSaid, ends-refused, ends-given, OrderSaid, order-refused, order-given, TurnSaid, turn-refused, turn-given, SideSaid, side-refused, side-given, Exactly, CrossSaid, cross-refused, cross-given, CodeHolds, CodeAt}
 use Rattle.demand.specs.WorkedBounds.{orders-fail}
-
--- an answer that says what `answer` does is `given` where the refusal n is 0, and else `other`, which says n
-said :
-    {A : Type 0} {says : A → List ℤ} (one : (r s : A) → says r ≡ says s → r ≡ s) (F : A → Type 0) {n : ℤ} {values : List ℤ} (given other : A)
-    → says given ≡ pos 0 ∷ values → says other ≡ n ∷ [] → (n ≡ pos 0 → F given) → ((n ≡ pos 0 → ⊥) → F other)
-    → (r : A) → says r ≡ answer n values → F r
-said one F {n} {values} given other f g h k r e = go (ℤ-discrete n (pos 0))
-  where
-    go : Dec (n ≡ pos 0) → F r
-    go (yes z) = subst F (sym (one r given (e ∙ accepted values z ∙ sym f))) (h z)
-    go (no d) = subst F (sym (one r other (e ∙ refused values d ∙ sym g))) (k d)
 
 -- ---- a crossing as it is answered, and back
 
@@ -96,13 +85,13 @@ module _ (R : ℤ) (d : Holds R) where
 
   ends-said : (o : Object) (r : Ends) → endsSay r ≡ answer (objectRefusal o) (numbers (firstEnd o) ++ numbers (lastEnd o)) → EndsSaid R o r
   ends-said o =
-      said ends-one (EndsSaid R o) (ends.Both (firstEnd o) (lastEnd o)) (ends.Refused (objectRefusal o)) refl refl
+      by-answer ends-one (EndsSaid R o) (ends.Both (firstEnd o) (lastEnd o)) (ends.Refused (objectRefusal o)) refl refl
       (λ z. ends-given z (piece-ends (d .ends o (record { accepted = z }))))
       (ends-refused refl)
 
   order-said : (p q : Point) (r : Signed) → signedSays r ≡ answer (orderRefusal p q) (order p q ∷ []) → OrderSaid R p q r
   order-said p q =
-      said signed-one (OrderSaid R p q) (signed.Sign (order p q)) (signed.Refused (orderRefusal p q)) refl refl
+      by-answer signed-one (OrderSaid R p q) (signed.Sign (order p q)) (signed.Refused (orderRefusal p q)) refl refl
       (λ z.
       let t = order-taken p q z in
       let h = d .above p (t .0) in
@@ -112,7 +101,7 @@ module _ (R : ℤ) (d : Holds R) where
 
   side-said : (o : Object) (t : Point) (r : Signed) → signedSays r ≡ answer (sideSignRefusal o t) (sideSign o t ∷ []) → SideSaid R o t r
   side-said o t =
-      said signed-one (SideSaid R o t) (signed.Sign (sideSign o t)) (signed.Refused (sideSignRefusal o t)) refl refl
+      by-answer signed-one (SideSaid R o t) (signed.Sign (sideSign o t)) (signed.Refused (sideSignRefusal o t)) refl refl
       (λ z.
       let i = side-taken o t z in
       let l = d .above t (i .1) in
@@ -132,13 +121,13 @@ module _ (R : ℤ) (d : Holds R) where
   cross-said :
       (a b : Object) (r : Crossing) → crossingSays r ≡ answer (crossingRefusal a b) (meetingNumbers (crossingOf a b)) → CrossSaid R a b r
   cross-said a b =
-      said crossing-one (CrossSaid R a b) (told (crossingOf a b)) (crossing.Refused (crossingRefusal a b)) (told-says (crossingOf a b)) refl
+      by-answer crossing-one (CrossSaid R a b) (told (crossingOf a b)) (crossing.Refused (crossingRefusal a b)) (told-says (crossingOf a b)) refl
       (λ z. let t = cross-taken a b z in cross-given z (exactly (d .crossings a b (t .0) (t .1))))
       (cross-refused refl)
 
 turn-said : (R : ℤ) → DemandAt R → (p q t : Point) (r : Signed) → signedSays r ≡ answer (turnRefusal p q t) (turn p q t ∷ []) → TurnSaid R p q t r
 turn-said R d p q t =
-    said signed-one (TurnSaid R p q t) (signed.Sign (turn p q t)) (signed.Refused (turnRefusal p q t)) refl refl
+    by-answer signed-one (TurnSaid R p q t) (signed.Sign (turn p q t)) (signed.Refused (turnRefusal p q t)) refl refl
     (λ z.
     let i = turn-taken p q t z in
     let h = d .holds .above p (i .0) in

@@ -1,17 +1,18 @@
 -- The laws of answers. To cite:
 --   refused, accepted           what `answer` says where the number is not 0, and where it is
 --   says-refused, says-accepted the same from the code's test of a call's result
+--   by-answer                   what holds of both things that an answer may be, each where its number says so, holds of the answer
 --   not-refused                 a refusal is 0 where the code's test of a call's result finds 0
 --   or-zero                     several checks in turn find nothing
 --   refused-first, refused-next   the first that finds something, from the code's test; what comes after one that finds nothing
 --   object-one, point-one       no two objects, and no two points, have the same five numbers
 --   made-one, ends-one, signed-one, crossing-one   no two values of an answer say the same numbers
 -- Assumes nothing.
-use mathlib.Core.Path.{_≡_, refl, sym, _∙_, ap, ap₂}
+use mathlib.Core.Path.{_≡_, refl, sym, _∙_, ap, ap₂, subst}
 use mathlib.Core.List.{List, [], _∷_}
 use Prim.Native.Nat.{ℕ}
 use native.Mathlib.Omega.{arith}
-use lib.IntN.{ℤ, pos}
+use lib.IntN.{ℤ, pos, ℤ-discrete}
 use mir.Syntax.{w64}
 use mir.Val.{SFits, ofZ}
 use Rattle.whole.specs.Flag.{eqZ}
@@ -48,6 +49,17 @@ says-accepted values f e z = sym (accepted values (sym e ∙ lit-taken 0 tt f z)
 
 pub not-refused : {r n : ℤ} → Fit r → r ≡ n → ofZ w64 r ≡ 0 → n ≡ pos 0
 not-refused {r} h e z = sym e ∙ lit-taken 0 tt (fits-ok r h) z
+
+-- what says the same as `answer` is `given` where the number n is 0, and else `other`, which says n
+pub by-answer :
+    {A : Type 0} {says : A → List ℤ} (one : (r s : A) → says r ≡ says s → r ≡ s) (F : A → Type 0) {n : ℤ} {values : List ℤ} (given other : A)
+    → says given ≡ pos 0 ∷ values → says other ≡ n ∷ [] → (n ≡ pos 0 → F given) → ((n ≡ pos 0 → ⊥) → F other)
+    → (r : A) → says r ≡ answer n values → F r
+by-answer one F {n} {values} given other f g h k r e = go (ℤ-discrete n (pos 0))
+  where
+    go : Dec (n ≡ pos 0) → F r
+    go (yes z) = subst F (sym (one r given (e ∙ accepted values z ∙ sym f))) (h z)
+    go (no d) = subst F (sym (one r other (e ∙ refused values d ∙ sym g))) (k d)
 
 -- several checks in turn find nothing
 pub or-zero : (n m : ℤ) → orElse n m ≡ pos 0 → (n ≡ pos 0) × (m ≡ pos 0)
