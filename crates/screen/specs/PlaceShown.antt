@@ -3,15 +3,15 @@
 -- Assumes nothing.
 use mathlib.Core.Path.{_≡_, refl, sym, _∙_, subst}
 use mathlib.Core.Bool.{Bool, true, false, cond}
-use lib.IntN.{pos}
+use lib.IntN.{ℤ, pos}
 use Rattle.sheet.specs.declared.Point.{Point}
 use Rattle.sheet.specs.Points.{isPoint, pointRefusal}
 use Rattle.sheet.specs.PointsLaws.{APoint, a-standard, a-frame, standard-is, point-is}
 use Rattle.screen.specs.declared.Place.{Place}
-use Rattle.screen.specs.QuotientLaws.{quotient-near}
+use Rattle.screen.specs.QuotientLaws.{Parts, quotient-near}
 use Rattle.screen.specs.Told.{answered}
 use Rattle.screen.specs.Places.{placeSays, sideWhere, placeOf}
-use Rattle.screen.specs.PlacesLaws.{place-one, side-where, frame-standard, place-standard, place-frame, ratios, along-parts}
+use Rattle.screen.specs.PlacesLaws.{place-one, side-where, frame-standard, place-standard, place-frame, ratios, along-by}
 use Rattle.screen.specs.Shown.{Shown, a-position, an-edge, no-point}
 
 pub shown : (p : Point) (r : Place) → placeSays r ≡ answered (pointRefusal p) (placeOf p) → Shown p r
@@ -26,8 +26,9 @@ shown p r e = go (isPoint p) refl e
         let n = ratios (a-standard s d) in
         is (a-position s (quotient-near (n .in-nx)) (quotient-near (n .in-ny))) (e ∙ place-standard p (standard-is p .1 s))
     accepted (a-frame f d) e =
-        let near = quotient-near (along-parts (sideWhere p) (ratios (a-frame f d))) in
-        is (an-edge (sideWhere p) f (side-where f) near) (e ∙ place-frame p (frame-standard f))
+        let n = ratios (a-frame f d) in
+        let slope = quotient-near (along-by (λ (z : ℤ). Parts z (p .w)) (sideWhere p) (n .in-mx) (n .in-my)) in
+        is (an-edge (sideWhere p) f (side-where f) slope) (e ∙ place-frame p (frame-standard f))
 
     go : (t : Bool) → isPoint p ≡ t → placeSays r ≡ answered (cond t (pos 0) (pos 5)) (placeOf p) → Shown p r
     go true t e = accepted (point-is p .0 t) e

@@ -38,12 +38,16 @@ goesTo s p = isOn s p && not (isOn (nextSide s) p)
 unfoldable pub sideWhere : Point → Side
 sideWhere p = cond (goesTo left p) left (cond (goesTo bottom p) bottom (cond (goesTo right p) right top))
 
--- "m .. of the coordinate along that side"
-abbrev pub along : Side → Point → ℤ
-along left p = p .my
-along bottom p = p .mx
-along right p = p .my
-along top p = p .mx
+-- of x and y "the coordinate along that side"
+abbrev pub along : Side → ℤ → ℤ → ℤ
+along left x y = y
+along bottom x y = x
+along right x y = y
+along top x y = x
+
+-- its m
+abbrev pub mAlong : Side → Point → ℤ
+mAlong s p = along s (p .mx) (p .my)
 
 -- ---- the place
 
@@ -53,7 +57,7 @@ positionOf p = record { wholes = pos 0 ∷ []; floats = quotient (p .nx) (p .w) 
 
 -- "a frame point gives its side and m/w of the coordinate along that side"
 abbrev pub edgeOf : Point → Told
-edgeOf p = record { wholes = pos 0 ∷ sideNumber (sideWhere p) ∷ []; floats = quotient (along (sideWhere p) p) (p .w) ∷ [] }
+edgeOf p = record { wholes = pos 0 ∷ sideNumber (sideWhere p) ∷ []; floats = quotient (mAlong (sideWhere p) p) (p .w) ∷ [] }
 
 unfoldable pub placeOf : Point → Told
 placeOf p = cond (standard p) (positionOf p) (edgeOf p)

@@ -3,8 +3,8 @@
 --   corner-side     the side of a corner begins there;  side-where   a frame point is on its side, and not where that side ends
 --   side-only       and it is so of no other side
 --   sideBy          `sideWhere` by the flags of the four sides
---   Ratios, ratios, along-parts   the numbers of a point that are divided are within the limits
---   alongNumber, along-is   the coordinate along a side, by the side's number
+--   Ratios, ratios  the numbers of a point that are divided are within the limits
+--   alongNumber, along-is   the coordinate along a side, by the side's number;  along-by   what holds of x and of y holds of it
 --   flat-is         a point is standard exactly where mx and my are 0;  frame-standard   on the frame it is not
 --   place-standard, place-frame   the place by whether the point is standard
 -- Assumes nothing.
@@ -172,13 +172,19 @@ module _ {p : Point} (f : Frame p) where
 -- ---- the coordinate along a side, by its number
 
 abbrev pub alongNumber : ℤ → ℤ → ℤ → ℤ
-alongNumber n mx my = cond (eqZ n (pos 1) || eqZ n (pos 3)) my mx
+alongNumber n x y = cond (eqZ n (pos 1) || eqZ n (pos 3)) y x
 
-pub along-is : (s : Side) (p : Point) → alongNumber (sideNumber s) (p .mx) (p .my) ≡ along s p
-along-is left p = refl
-along-is bottom p = refl
-along-is right p = refl
-along-is top p = refl
+pub along-is : (s : Side) (x y : ℤ) → alongNumber (sideNumber s) x y ≡ along s x y
+along-is left x y = refl
+along-is bottom x y = refl
+along-is right x y = refl
+along-is top x y = refl
+
+pub along-by : (F : ℤ → Type 0) (s : Side) {x y : ℤ} → F x → F y → F (along s x y)
+along-by F left a b = b
+along-by F bottom a b = a
+along-by F right a b = b
+along-by F top a b = a
 
 -- ---- standard and frame points
 
@@ -236,9 +242,3 @@ ratios a =
       in-mx = record { in-n = w-lit (s .in-mx) tt; in-w = s .in-w };
       in-my = record { in-n = w-lit (s .in-my) tt; in-w = s .in-w };
     }
-
-pub along-parts : {p : Point} (s : Side) → Ratios p → Parts (along s p) (p .w)
-along-parts left r = r .in-my
-along-parts bottom r = r .in-mx
-along-parts right r = r .in-my
-along-parts top r = r .in-mx

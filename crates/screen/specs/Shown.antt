@@ -19,13 +19,13 @@ use Rattle.screen.specs.declared.Position.{Position}
 use Rattle.screen.specs.declared.Boxed.{Boxed}
 use Rattle.screen.specs.declared.Boxed.the-variants as boxed
 use Rattle.screen.specs.Quotient.{zero+, quotient, Near}
-use Rattle.screen.specs.Places.{goesTo, along}
+use Rattle.screen.specs.Places.{goesTo, mAlong}
 
 -- ---- a place
 
 pub data Shown (p : Point) : Place → Type 0 where
   a-position : {x y : Float} → Standard p → Near (p .nx) (p .w) x → Near (p .ny) (p .w) y → Shown p (place.At x y)
-  an-edge : {t : Float} (s : Side) → Frame p → goesTo s p ≡ true → Near (along s p) (p .w) t → Shown p (place.Edge (sideNumber s) t)
+  an-edge : {t : Float} (s : Side) → Frame p → goesTo s p ≡ true → Near (mAlong s p) (p .w) t → Shown p (place.Edge (sideNumber s) t)
   no-point : isPoint p ≡ false → Shown p (place.Refused (pos 5))
 
 -- ---- a box

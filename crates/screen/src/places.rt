@@ -42,15 +42,15 @@ fn side_number(mx: i64, nx: i64, my: i64, ny: i64, w: i64) -> i64
     4
 }
 
-// The slope toward a side: the coordinate along it over w.
-fn slope(side: i64, mx: i64, my: i64, w: i64) -> f64
-    requires { ⌜ Parts mx w × Parts my w ⌝ }
-    ensures { λ r. ⌜ r ≡ quotient (alongNumber side mx my) w ⌝ }
+// Of x and y the one that runs along a side, over w.
+fn along(side: i64, x: i64, y: i64, w: i64) -> f64
+    requires { ⌜ Parts x w × Parts y w ⌝ }
+    ensures { λ r. ⌜ r ≡ quotient (alongNumber side x y) w ⌝ }
 {
     if (side == 1) | (side == 3) {
-        return ratio(my, w);
+        return ratio(y, w);
     }
-    ratio(mx, w)
+    ratio(x, w)
 }
 
 fn edge_place(mx: i64, nx: i64, my: i64, ny: i64, w: i64) -> Place
@@ -58,8 +58,8 @@ fn edge_place(mx: i64, nx: i64, my: i64, ny: i64, w: i64) -> Place
     ensures { λ r. ⌜ placeSays r ≡ edgeOf (record { mx = mx; nx = nx; my = my; ny = ny; w = w }) ⌝ }
 {
     let side = side_number(mx, nx, my, ny, w);
-    let t = slope(side, mx, my, w);
-    Place::Edge(side, t)
+    let slope = along(side, mx, my, w);
+    Place::Edge(side, slope)
 }
 
 fn point_place(mx: i64, nx: i64, my: i64, ny: i64, w: i64) -> Place

@@ -1,12 +1,13 @@
 use mathlib.Core.Path.{_≡_, _∙_, ap}
 use mathlib.Core.List.{[], _∷_}
 use lib.IntN.{ℤ, pos}
+use lib.Ieee.{Float}
 use Rattle.whole.specs.Tests.{out, out-is, gave}
 use Rattle.sheet.specs.declared.Point.{Point}
 use Rattle.sheet.specs.Figure.{sideNumber}
 use Rattle.kernel.proofs.Handed as handed
 use Rattle.screen.specs.Quotient.{quotient}
-use Rattle.screen.specs.Places.{sideWhere}
+use Rattle.screen.specs.Places.{sideWhere, along}
 use Rattle.screen.specs.PlacesLaws.{alongNumber, along-is}
 use borrow.Author.Needs.{needs}
 use Rattle.screen.proofs.places.edge_place.Statement.{statement}
@@ -25,17 +26,26 @@ number c =
 side-number-requires : tie.Need-side-number-requires
 side-number-requires c κs = search needs
 
-slope-requires : tie.Need-slope-requires
-slope-requires c κs = search needs
+along-requires : tie.Need-along-requires
+along-requires c κs = search needs
+
+-- what `along` gives for two numbers of the point, one of x and one of y
+value : (c : tie.After-side-number) {r : Float} (x y : ℤ) → out x ≡ x → out y ≡ y
+    → r ≡ quotient (alongNumber (out (c .side-number .result)) (out x) (out y)) (out (c .before .args .w))
+    → r ≡ quotient (along (sideWhere (point (c .before))) x y) (c .before .args .w)
+value c x y ex ey e =
+    let s = c .before in
+    let n = number c in
+    e
+    ∙ (λ i. quotient (alongNumber (n i) (ex i) (ey i)) (out-is (s .fits .w) i))
+    ∙ ap (λ (m : ℤ). quotient m (s .args .w)) (along-is (sideWhere (point s)) x y)
 
 returns : tie.Need-returns
 returns c =
-    let s = c .before .before in
-    let n = number (c .before) in
-    let t = c .slope .ensures
-    ∙ (λ i. quotient (alongNumber (n i) (out-is (s .fits .mx) i) (out-is (s .fits .my) i)) (out-is (s .fits .w) i))
-    ∙ ap (λ (m : ℤ). quotient m (s .args .w)) (along-is (sideWhere (point s)) (point s)) in
-    λ i. record { wholes = pos 0 ∷ n i ∷ []; floats = t i ∷ [] }
+    let b = c .before in
+    let s = b .before in
+    let slope = value b (s .args .mx) (s .args .my) (out-is (s .fits .mx)) (out-is (s .fits .my)) (c .along .ensures) in
+    λ i. record { wholes = pos 0 ∷ number b i ∷ []; floats = slope i ∷ [] }
 
 pub edge-place-spec : {M : Type 1} → statement M
-edge-place-spec = tie.close (tie.spec side-number-requires slope-requires returns)
+edge-place-spec = tie.close (tie.spec side-number-requires along-requires returns)

@@ -7,23 +7,23 @@ use Rattle.whole.specs.Tests.{out-is, lit-flag}
 use Rattle.screen.specs.Quotient.{quotient}
 use Rattle.screen.specs.PlacesLaws.{alongNumber}
 use borrow.Author.Needs.{needs}
-use Rattle.screen.proofs.places.slope.Statement.{statement}
-use Rattle.screen.proofs.places.slope.Tie as tie
+use Rattle.screen.proofs.places.along.Statement.{statement}
+use Rattle.screen.proofs.places.along.Tie as tie
 
 ratio-requires : tie.Need-ratio-requires
 ratio-requires c κs = search needs
 
 -- what the flag chooses
 chosen : (s : tie.Start) {t : Bool} → eqb (ofZ w64 (s .args .side)) 1 || eqb (ofZ w64 (s .args .side)) 3 ≡ t
-    → cond t (s .args .my) (s .args .mx) ≡ alongNumber (s .args .side) (s .args .mx) (s .args .my)
+    → cond t (s .args .y) (s .args .x) ≡ alongNumber (s .args .side) (s .args .x) (s .args .y)
 chosen s e =
-    ap (λ (t : Bool). cond t (s .args .my) (s .args .mx))
+    ap (λ (t : Bool). cond t (s .args .y) (s .args .x))
     (sym e ∙ (λ i. lit-flag 1 tt (s .fits .side) i || lit-flag 3 tt (s .fits .side) i))
 
 returns : tie.Need-returns
 returns c =
     let s = c .before .before in
-    c .ratio .ensures .0 ∙ ap₂ quotient (out-is (s .fits .my) ∙ chosen s (c .before .if1 .taken)) (out-is (s .fits .w))
+    c .ratio .ensures .0 ∙ ap₂ quotient (out-is (s .fits .y) ∙ chosen s (c .before .if1 .taken)) (out-is (s .fits .w))
 
 ratio-requires-2 : tie.Need-ratio-requires-2
 ratio-requires-2 c κs = search needs
@@ -31,7 +31,7 @@ ratio-requires-2 c κs = search needs
 returns-2 : tie.Need-returns-2
 returns-2 c =
     let s = c .before .before in
-    c .ratio2 .ensures .0 ∙ ap₂ quotient (out-is (s .fits .mx) ∙ chosen s (c .before .if1 .left)) (out-is (s .fits .w))
+    c .ratio2 .ensures .0 ∙ ap₂ quotient (out-is (s .fits .x) ∙ chosen s (c .before .if1 .left)) (out-is (s .fits .w))
 
-pub slope-spec : {M : Type 1} → statement M
-slope-spec = tie.close (tie.spec ratio-requires returns ratio-requires-2 returns-2)
+pub along-spec : {M : Type 1} → statement M
+along-spec = tie.close (tie.spec ratio-requires returns ratio-requires-2 returns-2)
