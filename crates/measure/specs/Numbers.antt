@@ -22,7 +22,7 @@ shownOf t = record {
   fourth = getD (t .floats) 3 zero+;
 }
 
--- of a place, the side number, 0 where it has none, and its one or two values
+-- of a place, the side number, 0 where it has none, and its two values
 abbrev pub placeShown : Point → Shown
 placeShown p = shownOf (answered (pointRefusal p) (placeOf p))
 

@@ -26,7 +26,7 @@ pub fn of_place(place: Place) -> Shown
 {
     match place {
         Place::At(x, y) => six(0, 0, x, y, 0.0, 0.0),
-        Place::Edge(side, slope) => six(0, side, slope, 0.0, 0.0, 0.0),
+        Place::Edge(side, slope, offset) => six(0, side, slope, offset, 0.0, 0.0),
         Place::Refused(refusal) => six(refusal, 0, 0.0, 0.0, 0.0, 0.0),
     }
 }

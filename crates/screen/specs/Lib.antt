@@ -11,6 +11,9 @@ pub mod ListsLaws
 pub mod ExtentsLaws
 pub mod Shown
 pub mod PlaceShown
+pub mod Apart
+pub mod SamePlace
+pub mod EndsApart
 pub mod Surrounds
 pub mod Worked
 pub mod BoxShown

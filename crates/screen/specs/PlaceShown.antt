@@ -28,7 +28,8 @@ shown p r e = go (isPoint p) refl e
     accepted (a-frame f d) e =
         let n = ratios (a-frame f d) in
         let slope = quotient-near (along-by (λ (z : ℤ). Parts z (p .w)) (sideWhere p) (n .in-mx) (n .in-my)) in
-        is (an-edge (sideWhere p) f (side-where f) slope) (e ∙ place-frame p (frame-standard f))
+        let offset = quotient-near (along-by (λ (z : ℤ). Parts z (p .w)) (sideWhere p) (n .in-nx) (n .in-ny)) in
+        is (an-edge (sideWhere p) f (side-where f) slope offset) (e ∙ place-frame p (frame-standard f))
 
     go : (t : Bool) → isPoint p ≡ t → placeSays r ≡ answered (cond t (pos 0) (pos 5)) (placeOf p) → Shown p r
     go true t e = accepted (point-is p .0 t) e

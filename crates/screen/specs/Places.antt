@@ -1,4 +1,5 @@
--- "A place is either a position with x and y as 64-bit floats, or an edge with its side number and a slope as a float."
+-- "A place is either a position with x and y as 64-bit floats, or an edge with its side number and a slope as a float." "An edge must also
+-- give n/w of the coordinate along the side": its offset.
 use mathlib.Core.Bool.{Bool, cond, not, _&&_}
 use mathlib.Core.List.{[], _∷_}
 use lib.IntN.{ℤ, pos, negℤ}
@@ -12,10 +13,10 @@ use Rattle.screen.specs.declared.Place.the-variants.{At, Edge, Refused}
 use Rattle.screen.specs.Quotient.{quotient}
 use Rattle.screen.specs.Told.{Told, refusal}
 
--- what each place says: 0, then x and y, or the side number and the slope; or the refusal
+-- what each place says: 0, then x and y, or the side number, the slope and the offset; or the refusal
 abbrev pub placeSays : Place → Told
 placeSays (At x y) = record { wholes = pos 0 ∷ []; floats = x ∷ y ∷ [] }
-placeSays (Edge n t) = record { wholes = pos 0 ∷ n ∷ []; floats = t ∷ [] }
+placeSays (Edge n t o) = record { wholes = pos 0 ∷ n ∷ []; floats = t ∷ o ∷ [] }
 placeSays (Refused n) = refusal n
 
 -- ---- the side of a frame point
@@ -45,9 +46,12 @@ along bottom x y = x
 along right x y = y
 along top x y = x
 
--- its m
+-- its m and its n
 abbrev pub mAlong : Side → Point → ℤ
 mAlong s p = along s (p .mx) (p .my)
+
+abbrev pub nAlong : Side → Point → ℤ
+nAlong s p = along s (p .nx) (p .ny)
 
 -- ---- the place
 
@@ -55,9 +59,12 @@ mAlong s p = along s (p .mx) (p .my)
 abbrev pub positionOf : Point → Told
 positionOf p = record { wholes = pos 0 ∷ []; floats = quotient (p .nx) (p .w) ∷ quotient (p .ny) (p .w) ∷ [] }
 
--- "a frame point gives its side and m/w of the coordinate along that side"
+-- "a frame point gives its side and m/w of the coordinate along that side", and n/w of it
 abbrev pub edgeOf : Point → Told
-edgeOf p = record { wholes = pos 0 ∷ sideNumber (sideWhere p) ∷ []; floats = quotient (mAlong (sideWhere p) p) (p .w) ∷ [] }
+edgeOf p = record {
+  wholes = pos 0 ∷ sideNumber (sideWhere p) ∷ [];
+  floats = quotient (mAlong (sideWhere p) p) (p .w) ∷ quotient (nAlong (sideWhere p) p) (p .w) ∷ [];
+}
 
 unfoldable pub placeOf : Point → Told
 placeOf p = cond (standard p) (positionOf p) (edgeOf p)

@@ -29,7 +29,7 @@ use Rattle.screen.specs.declared.Place.{Place}
 use Rattle.screen.specs.declared.Place.the-variants.{At, Edge, Refused}
 use Rattle.screen.specs.QuotientLaws.{Parts}
 use Rattle.screen.specs.Told.{Told}
-use Rattle.screen.specs.ToldLaws.{as-many}
+use Rattle.screen.specs.ToldLaws.{as-many, as-many-wholes}
 use Rattle.screen.specs.Places.{placeSays, exactly, isOn, goesTo, sideWhere, along, positionOf, edgeOf, placeOf}
 
 -- ---- no two places say the same
@@ -40,18 +40,19 @@ place-one (At x y) (At x′ y′) e =
     let ex : x ≡ x′ = cc in
     let ey : y ≡ y′ = cc in
     ap₂ At ex ey
-place-one (At x y) (Edge n t) e = let z = as-many e in absurd (omega arith)
+place-one (At x y) (Edge n t o) e = let z = as-many-wholes e in absurd (omega arith)
 place-one (At x y) (Refused n) e = let z = as-many e in absurd (omega arith)
-place-one (Edge n t) (At x y) e = let z = as-many e in absurd (omega arith)
-place-one (Edge n t) (Edge n′ t′) e =
+place-one (Edge n t o) (At x y) e = let z = as-many-wholes e in absurd (omega arith)
+place-one (Edge n t o) (Edge n′ t′ o′) e =
     let f = ap (λ (u : Told). u .floats) e in
     let g = ap (λ (u : Told). u .wholes) e in
     let et : t ≡ t′ = cc in
+    let eo : o ≡ o′ = cc in
     let en : n ≡ n′ = cc in
-    ap₂ Edge en et
-place-one (Edge n t) (Refused m) e = let z = as-many e in absurd (omega arith)
+    λ i. Edge (en i) (et i) (eo i)
+place-one (Edge n t o) (Refused m) e = let z = as-many e in absurd (omega arith)
 place-one (Refused n) (At x y) e = let z = as-many e in absurd (omega arith)
-place-one (Refused n) (Edge m t) e = let z = as-many e in absurd (omega arith)
+place-one (Refused n) (Edge m t o) e = let z = as-many e in absurd (omega arith)
 place-one (Refused n) (Refused m) e = let f = ap (λ (u : Told). u .wholes) e in let z : n ≡ m = cc in ap Refused z
 
 -- ---- the side of a frame point

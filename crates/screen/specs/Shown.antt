@@ -1,5 +1,6 @@
 -- What the paper promises of a place and of a box: `Shown p r` is what r, the place that was given for p, has to do with p, and `BoxShown l r`
--- what the box r has to do with the list l. Definitions alone; `proofs/Shows` shows them of the calls.
+-- what the box r has to do with the list l; and which objects have no place of an end in common. Definitions alone; `proofs/Shows` shows them
+-- of the calls.
 use mathlib.Core.Path.{_≡_}
 use mathlib.Core.Bool.{true, false}
 use mathlib.Core.List.{List, [], _∷_}
@@ -7,11 +8,15 @@ use Prim.Native.Nat.{ℕ, _<_}
 use lib.Ieee.{Float}
 use lib.IntN.{ℤ, pos}
 use lib.Signed.{_≤ℤ_}
+use Rattle.sheet.specs.declared.Object.{Object}
 use Rattle.sheet.specs.declared.Point.{Point}
-use Rattle.sheet.specs.Figure.{Side, sideNumber}
+use Rattle.sheet.specs.declared.Ends.{Ends}
+use Rattle.sheet.specs.declared.Ends.the-variants as ends
+use Rattle.sheet.specs.Figure.{_⇀_, Side, sideNumber, first, second}
 use Rattle.sheet.specs.Points.{isPoint, standard}
 use Rattle.sheet.specs.PointsLaws.{Standard, Frame}
-use Rattle.sheet.specs.Ends.{firstEnd, lastEnd}
+use Rattle.sheet.specs.Ends.{moment, firstEnd, lastEnd}
+use Rattle.sheet.specs.Crossing.{cross}
 use Rattle.sheet.specs.Lists.{countOf, objectAt, listRefusal}
 use Rattle.screen.specs.declared.Place.{Place}
 use Rattle.screen.specs.declared.Place.the-variants as place
@@ -19,14 +24,29 @@ use Rattle.screen.specs.declared.Position.{Position}
 use Rattle.screen.specs.declared.Boxed.{Boxed}
 use Rattle.screen.specs.declared.Boxed.the-variants as boxed
 use Rattle.screen.specs.Quotient.{zero+, quotient, Near}
-use Rattle.screen.specs.Places.{goesTo, mAlong}
+use Rattle.screen.specs.Places.{goesTo, mAlong, nAlong}
 
 -- ---- a place
 
 pub data Shown (p : Point) : Place → Type 0 where
   a-position : {x y : Float} → Standard p → Near (p .nx) (p .w) x → Near (p .ny) (p .w) y → Shown p (place.At x y)
-  an-edge : {t : Float} (s : Side) → Frame p → goesTo s p ≡ true → Near (mAlong s p) (p .w) t → Shown p (place.Edge (sideNumber s) t)
+  an-edge : {t o : Float} (s : Side) → Frame p → goesTo s p ≡ true → Near (mAlong s p) (p .w) t → Near (nAlong s p) (p .w) o
+      → Shown p (place.Edge (sideNumber s) t o)
   no-point : isPoint p ≡ false → Shown p (place.Refused (pos 5))
+
+-- ---- parallel objects
+
+-- p is one of the ends that an answer gives
+pub data EndIn (p : Point) : Ends → Type 0 where
+  as-first : {q : Point} → EndIn p (ends.Both p q)
+  as-last : {q : Point} → EndIn p (ends.Both q p)
+
+-- "parallel gauge lines": p and q of the one and of the other lie in one direction, and the two have not the same k = dx py - dy px. k is that
+-- of both p with dx and dy of the first object: those of the second may be longer, or turned round.
+pub record Parallel (o u : Object) : Type 0 where
+  pub no-sides : (o .kind ≡ pos 4 → ⊥) × (u .kind ≡ pos 4 → ⊥)
+  pub one-direction : cross (first o ⇀ second o) (first u ⇀ second u) ≡ pos 0
+  pub other-k : moment (first o) (first o ⇀ second o) ≡ moment (first u) (first o ⇀ second o) → ⊥
 
 -- ---- a box
 

@@ -1,6 +1,6 @@
 -- The laws of what is told. To cite:
 --   told-refused, told-accepted   what a refused or an accepted call tells, from the code's test of the refusal
---   as-many                       what tells the same tells as many floats
+--   as-many, as-many-wholes       what tells the same tells as many floats, and as many whole numbers
 -- Assumes nothing.
 use mathlib.Core.Path.{_≡_, sym, _∙_, ap}
 use mathlib.Core.Bool.{Bool, cond}
@@ -13,6 +13,9 @@ use Rattle.screen.specs.Told.{Told, refusal, answered}
 
 pub as-many : {s t : Told} → s ≡ t → length (s .floats) ≡ length (t .floats)
 as-many e = ap (λ (t : Told). length (t .floats)) e
+
+pub as-many-wholes : {s t : Told} → s ≡ t → length (s .wholes) ≡ length (t .wholes)
+as-many-wholes e = ap (λ (t : Told). length (t .wholes)) e
 
 -- r is a call's result, and the code tests whether it is 0
 module _ {r n : ℤ} (t : Told) (f : SFits w64 r) (e : r ≡ n) where

@@ -6,51 +6,57 @@ use mathlib.Core.List.{List, [], _∷_}
 use lib.Dec.{le→leb, lit≤, lit<}
 use lib.Ieee.{Float, nan, inf, fin}
 use lib.IntN.{ℤ, pos, negsuc}
+use Rattle.whole.specs.Sign.{sgn}
+use Rattle.whole.specs.Divisor.{steps, gcd, gcdOf}
 use Rattle.whole.specs.Tests.{eqZ-false}
+use Rattle.sheet.specs.declared.Object.{Object}
 use Rattle.sheet.specs.Figure.{Vec, figure}
-use Rattle.sheet.specs.Points.{standard}
+use Rattle.sheet.specs.Points.{divided, standard}
+use Rattle.sheet.specs.Ends.{farRaw, farEnd, firstEnd, lastEnd}
 use Rattle.sheet.specs.Cases.{minus, point, at, segment, ray, line, side}
 use Rattle.screen.specs.declared.Place.the-variants as place
 use Rattle.screen.specs.declared.Boxed.the-variants as boxed
 use Rattle.screen.specs.Told.{Told}
 use Rattle.screen.specs.Quotient.{zero+, float, quotient, Near}
 use Rattle.screen.specs.Places.{placeSays, sideWhere, placeOf}
+use Rattle.screen.specs.Shown.{Parallel}
 use Rattle.screen.specs.Extents.{endsOf, farthest, extreme, extentOf, extentSays, boxedSays}
 
 -- ---- places
 
--- 0, x and y; 0, the side number and the slope: each float as n and w, which are divided
+-- 0, x and y; 0, the side number, the slope m/w and the offset n/w: each float as the two numbers that are divided
 abbrev position : ℤ → ℤ → ℤ → Told
 position x y w = record { wholes = pos 0 ∷ []; floats = quotient x w ∷ quotient y w ∷ [] }
 
-abbrev edge : ℤ → ℤ → ℤ → Told
-edge n m w = record { wholes = pos 0 ∷ n ∷ []; floats = quotient m w ∷ [] }
+abbrev edge : ℤ → ℤ → ℤ → ℤ → Told
+edge number m n w = record { wholes = pos 0 ∷ number ∷ []; floats = quotient m w ∷ quotient n w ∷ [] }
 
 pub record WorkedPlaces : Type 0 where
   -- "A standard point gives nx/w and ny/w"
   positions :
       (placeOf (point (pos 0) (pos 3) (pos 0) (minus 7) (pos 2)) ≡ position (pos 3) (minus 7) (pos 2))
       × (placeOf (at (pos 5) (pos 0)) ≡ position (pos 5) (pos 0) (pos 1))
-  -- "a frame point gives its side and m/w of the coordinate along that side": on the left, the bottom, the right, the top
+  -- "a frame point gives its side and m/w of the coordinate along that side", and n/w: on the left, the bottom, the right, the top
   edges :
-      (placeOf (point (minus 5) (pos 0) (pos 2) (pos 3) (pos 5)) ≡ edge (pos 1) (pos 2) (pos 5))
-      × (placeOf (point (pos 1) (pos 4) (minus 3) (pos 0) (pos 3)) ≡ edge (pos 2) (pos 1) (pos 3))
-      × (placeOf (point (pos 7) (pos 0) (minus 2) (pos 6) (pos 7)) ≡ edge (pos 3) (minus 2) (pos 7))
-      × (placeOf (point (minus 1) (pos 5) (pos 2) (pos 0) (pos 2)) ≡ edge (pos 4) (minus 1) (pos 2))
+      (placeOf (point (minus 5) (pos 0) (pos 2) (pos 3) (pos 5)) ≡ edge (pos 1) (pos 2) (pos 3) (pos 5))
+      × (placeOf (point (pos 1) (pos 4) (minus 3) (pos 0) (pos 3)) ≡ edge (pos 2) (pos 1) (pos 4) (pos 3))
+      × (placeOf (point (pos 7) (pos 0) (minus 2) (pos 6) (pos 7)) ≡ edge (pos 3) (minus 2) (pos 6) (pos 7))
+      × (placeOf (point (minus 1) (pos 5) (pos 2) (pos 0) (pos 2)) ≡ edge (pos 4) (minus 1) (pos 5) (pos 2))
   -- "A corner goes to the side that begins there"; beside the corners it does not
   corners :
-      (placeOf (point (minus 1) (pos 0) (pos 1) (pos 0) (pos 1)) ≡ edge (pos 1) (pos 1) (pos 1))
-      × (placeOf (point (minus 1) (pos 0) (minus 1) (pos 0) (pos 1)) ≡ edge (pos 2) (minus 1) (pos 1))
-      × (placeOf (point (pos 1) (pos 0) (minus 1) (pos 0) (pos 1)) ≡ edge (pos 3) (minus 1) (pos 1))
-      × (placeOf (point (pos 1) (pos 0) (pos 1) (pos 0) (pos 1)) ≡ edge (pos 4) (pos 1) (pos 1))
+      (placeOf (point (minus 1) (pos 0) (pos 1) (pos 0) (pos 1)) ≡ edge (pos 1) (pos 1) (pos 0) (pos 1))
+      × (placeOf (point (minus 1) (pos 0) (minus 1) (pos 0) (pos 1)) ≡ edge (pos 2) (minus 1) (pos 0) (pos 1))
+      × (placeOf (point (pos 1) (pos 0) (minus 1) (pos 0) (pos 1)) ≡ edge (pos 3) (minus 1) (pos 0) (pos 1))
+      × (placeOf (point (pos 1) (pos 0) (pos 1) (pos 0) (pos 1)) ≡ edge (pos 4) (pos 1) (pos 0) (pos 1))
   beside-the-corners :
-      (placeOf (point (minus 1) (pos 0) (minus 1) (pos 7) (pos 1)) ≡ edge (pos 1) (minus 1) (pos 1))
-      × (placeOf (point (pos 1) (minus 7) (minus 1) (pos 0) (pos 1)) ≡ edge (pos 2) (pos 1) (pos 1))
-      × (placeOf (point (pos 1) (pos 0) (pos 1) (minus 7) (pos 1)) ≡ edge (pos 3) (pos 1) (pos 1))
-      × (placeOf (point (minus 1) (pos 7) (pos 1) (pos 0) (pos 1)) ≡ edge (pos 4) (minus 1) (pos 1))
+      (placeOf (point (minus 1) (pos 0) (minus 1) (pos 7) (pos 1)) ≡ edge (pos 1) (minus 1) (pos 7) (pos 1))
+      × (placeOf (point (pos 1) (minus 7) (minus 1) (pos 0) (pos 1)) ≡ edge (pos 2) (pos 1) (minus 7) (pos 1))
+      × (placeOf (point (pos 1) (pos 0) (pos 1) (minus 7) (pos 1)) ≡ edge (pos 3) (pos 1) (minus 7) (pos 1))
+      × (placeOf (point (minus 1) (pos 7) (pos 1) (pos 0) (pos 1)) ≡ edge (pos 4) (minus 1) (pos 7) (pos 1))
   said :
       (placeSays (place.At (float (pos 3)) (float (pos 4))) ≡ record { wholes = pos 0 ∷ []; floats = float (pos 3) ∷ float (pos 4) ∷ [] })
-      × (placeSays (place.Edge (pos 2) zero+) ≡ record { wholes = pos 0 ∷ pos 2 ∷ []; floats = zero+ ∷ [] })
+      × (placeSays (place.Edge (pos 2) (float (pos 3)) (float (pos 4)))
+      ≡ record { wholes = pos 0 ∷ pos 2 ∷ []; floats = float (pos 3) ∷ float (pos 4) ∷ [] })
       × (placeSays (place.Refused (pos 5)) ≡ record { wholes = pos 5 ∷ []; floats = [] })
 
 pub worked-places : WorkedPlaces
@@ -61,6 +67,46 @@ worked-places = record {
   corners = (refl, refl, refl, refl);
   beside-the-corners = (refl, refl, refl, refl);
   said = (refl, refl, refl);
+}
+
+-- ---- parallel lines, told apart by n alone: row 4's and row 6's, (0, 1) to (2, 2) and (0, 0) to (2, 1)
+
+abbrev upper : Object
+upper = line (pos 0) (pos 1) (pos 2) (pos 2)
+
+abbrev lower : Object
+lower = line (pos 0) (pos 0) (pos 2) (pos 1)
+
+pub record WorkedParallel : Type 0 where
+  -- the arrowheads are at y = R/2 + 2/2 and y = R/2 of the right side, the other ends at y = -R/2 + 2/2 and y = -R/2 of the left one
+  rows-4-and-6 :
+      (placeOf (lastEnd upper) ≡ edge (pos 3) (pos 1) (pos 2) (pos 2)) × (placeOf (lastEnd lower) ≡ edge (pos 3) (pos 1) (pos 0) (pos 2))
+      × (placeOf (firstEnd upper) ≡ edge (pos 1) (minus 1) (pos 2) (pos 2)) × (placeOf (firstEnd lower) ≡ edge (pos 1) (minus 1) (pos 0) (pos 2))
+  are-parallel : Parallel upper lower
+  -- with q farther off and the arrow the other way, a ray for a line
+  turned-round : Parallel lower (ray (pos 4) (pos 3) (minus 4) (minus 1))
+  -- two names of one line; two that are not parallel; a side
+  one-line : Parallel upper (line (pos 4) (pos 3) (minus 4) (minus 1)) → ⊥
+  not-parallel : Parallel lower (line (pos 0) (pos 1) (pos 2) (pos 3)) → ⊥
+  no-side : Parallel (line (pos 0) (pos 0) (pos 0) (minus 1)) (side (pos 1)) → ⊥
+
+pub worked-parallel : WorkedParallel
+unfolding sgn steps gcd gcdOf figure divided farRaw farEnd firstEnd lastEnd standard sideWhere placeOf
+worked-parallel = record {
+  rows-4-and-6 = (refl, refl, refl, refl);
+  are-parallel = record {
+    no-sides = (eqZ-false {a = pos 3} {b = pos 4} refl, eqZ-false {a = pos 3} {b = pos 4} refl);
+    one-direction = refl;
+    other-k = eqZ-false {a = pos 2} {b = pos 0} refl;
+  };
+  turned-round = record {
+    no-sides = (eqZ-false {a = pos 3} {b = pos 4} refl, eqZ-false {a = pos 2} {b = pos 4} refl);
+    one-direction = refl;
+    other-k = eqZ-false {a = pos 0} {b = pos 2} refl;
+  };
+  one-line = λ h. h .other-k refl;
+  not-parallel = λ h. eqZ-false {a = pos 2} {b = pos 0} refl (h .one-direction);
+  no-side = λ h. h .no-sides .1 refl;
 }
 
 -- ---- boxes

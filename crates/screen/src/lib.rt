@@ -3,10 +3,10 @@ pub mod extents;
 pub mod places;
 mod quotient;
 
-// Where a point is: a position x, y; the number of a frame side and the slope toward it; or the number of the refusal.
+// Where a point is: a position x, y; the number of a frame side, the slope toward it and the offset along it; or the number of the refusal.
 pub enum Place {
     At(f64, f64),
-    Edge(i64, f64),
+    Edge(i64, f64, f64),
     Refused(i64),
 }
 

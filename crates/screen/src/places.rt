@@ -53,13 +53,15 @@ fn along(side: i64, x: i64, y: i64, w: i64) -> f64
     ratio(x, w)
 }
 
+// The slope tells the direction that leads to the side, the offset which of all parallel ways it is.
 fn edge_place(mx: i64, nx: i64, my: i64, ny: i64, w: i64) -> Place
-    requires { ⌜ Parts mx w × Parts my w ⌝ }
+    requires { ⌜ Parts mx w × Parts my w × Parts nx w × Parts ny w ⌝ }
     ensures { λ r. ⌜ placeSays r ≡ edgeOf (record { mx = mx; nx = nx; my = my; ny = ny; w = w }) ⌝ }
 {
     let side = side_number(mx, nx, my, ny, w);
     let slope = along(side, mx, my, w);
-    Place::Edge(side, slope)
+    let offset = along(side, nx, ny, w);
+    Place::Edge(side, slope, offset)
 }
 
 fn point_place(mx: i64, nx: i64, my: i64, ny: i64, w: i64) -> Place

@@ -35,10 +35,11 @@ fn place(p: Point) {
             float(y);
             say::end();
         }
-        Place::Edge(side, slope) => {
+        Place::Edge(side, slope, offset) => {
             say::text(b" side");
             say::number(side);
             float(slope);
+            float(offset);
             say::end();
         }
         Place::Refused(n) => say::refused(n),
@@ -105,6 +106,8 @@ pub fn every_end() {
 pub fn line_ends() {
     say::text(b"ends of line 0 1 to 2 2");
     ends(3, 0, 1, 2, 2);
+    say::text(b"ends of line 0 0 to 2 1");
+    ends(3, 0, 0, 2, 1);
     say::text(b"ends of line 5 0 to 5 1");
     ends(3, 5, 0, 5, 1);
 }

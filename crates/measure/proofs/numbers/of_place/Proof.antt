@@ -41,7 +41,7 @@ unfolding ofBits
 returns-2 c =
     let e = c .before .before .place2 .given in
     c .six2 .ensures
-    ∙ ap (λ (n : ℤ). shown (Edge n (e .0 .1 .0))) (out-ok (e .0 .0) (c .before .known-told2 .given .0 .1))
+    ∙ ap (λ (n : ℤ). shown (Edge n (e .0 .1 .0) (e .0 .1 .1 .0))) (out-ok (e .0 .0) (c .before .known-told2 .given .0 .1))
     ∙ sym (ap shown (e .1))
 
 returns-3 : tie.Need-returns-3

@@ -37,7 +37,9 @@ returns c =
     ∙ sym (place-standard (point s) (tested s ∙ c .before .before .if1 .taken))
 
 edge-place-requires : tie.Need-edge-place-requires
-edge-place-requires c κs = let r = ratios (c .before .pre) in (parts-out (r .in-mx), parts-out (r .in-my))
+edge-place-requires c κs =
+    let r = ratios (c .before .pre) in
+    (parts-out (r .in-mx), parts-out (r .in-my), parts-out (r .in-nx), parts-out (r .in-ny))
 
 returns-2 : tie.Need-returns-2
 returns-2 c =

@@ -1,0 +1,103 @@
+-- Two parallel objects that are not on one line have no end in common. To cite:
+--   Lined, end-lined   an end that an answer of `ends_of` gives is a narrow point on the line of the object's p and q
+--   same-k             where a point is on two parallel lines, k is the same
+--   lined-apart        so two parallel objects with different k have no such end in common
+-- Assumes nothing.
+use mathlib.Core.Path.{_≡_, refl, sym, _∙_, subst}
+use mathlib.Core.Bool.{true}
+use mathlib.Core.List.{[], _∷_, _++_}
+use lib.IntN.{ℤ, pos, negsuc, _-ℤ_, _*ℤ_}
+use lib.Signed.{_<ℤ_}
+use Rattle.whole.specs.Laws.{eq-of-sub}
+use Rattle.whole.specs.Reify.{reify, reading, solve, val-pos, val-negsuc}
+use Rattle.whole.specs.Cert.{z-eq, z-add, eq-cert, zero-cancel}
+use Rattle.sheet.specs.declared.Object.{Object}
+use Rattle.sheet.specs.declared.Point.{Point}
+use Rattle.sheet.specs.declared.Ends.{Ends}
+use Rattle.sheet.specs.declared.Ends.the-variants as ends
+use Rattle.sheet.specs.Figure.{Vec, _⇀_, Figure, first, second, figure}
+use Rattle.sheet.specs.Refusal.{objectRefusal, Accepted}
+use Rattle.sheet.specs.Points.{numbers, narrow, isPoint}
+use Rattle.sheet.specs.Ends.{moment, reverse, firstOf, lastOf, firstEnd, lastEnd}
+use Rattle.sheet.specs.Crossing.{cross}
+use Rattle.sheet.specs.Answers.{answer, endsSay}
+use Rattle.sheet.specs.AnswersLaws.{ends-one, by-answer}
+use Rattle.sheet.specs.RefusalLaws.{Proper, Taken, a-segment, a-ray, a-line, a-side, accepted-taken}
+use Rattle.sheet.specs.PointsLaws.{point-is, point-sizes}
+use Rattle.sheet.specs.EndsLaws.{proper-way, reverse-way, first-end-is-point, last-end-is-point}
+use Rattle.sheet.specs.OnLine.{OnLine, on-line-given, on-line-back, far-on-line, parallel, cross-self, cross-same, cross-turned}
+use Rattle.screen.specs.Shown.{EndIn, as-first, as-last, Parallel}
+
+-- f, which is not 0, is parallel to d. So the point is on the line through r in the direction d too, and w k is the same for both.
+pub same-k : (p d r f : Vec) {e : Point} → (f .x ≡ pos 0 → f .y ≡ pos 0 → ⊥) → cross d f ≡ pos 0 → pos 0 <ℤ e .w → OnLine p d e → OnLine r f e
+    → moment p d ≡ moment r d
+same-k p d r f {e} n h above a b =
+    let u : Vec = record { x = e .nx -ℤ e .w *ℤ r .x; y = e .ny -ℤ e .w *ℤ r .y } in
+    let across : cross f u ≡ pos 0 =
+    eq-cert _ (z-eq (pos 1) (b .even))
+    (reify (f .x ∷ f .y ∷ r .x ∷ r .y ∷ e .nx ∷ e .ny ∷ e .w ∷ [])
+    (λ ρ v. simp (reading, val-pos ρ, v 0, v 1, v 2, v 3, v 4, v 5, v 6) (solve _ _ _ tt))) in
+    eq-of-sub (moment p d) (moment r d)
+    (zero-cancel (e .w) above
+    (eq-cert _ (z-add (z-eq (pos 1) (parallel f d u n (cross-turned d f h) across)) (z-eq (negsuc 0) (a .even)))
+    (reify (d .x ∷ d .y ∷ p .x ∷ p .y ∷ r .x ∷ r .y ∷ e .nx ∷ e .ny ∷ e .w ∷ [])
+    (λ ρ v. simp (reading, val-pos ρ, val-negsuc ρ, v 0, v 1, v 2, v 3, v 4, v 5, v 6, v 7, v 8) (solve _ _ _ tt)))))
+
+-- e is an end of o, which is no side
+pub record Lined (o : Object) (e : Point) : Type 0 where
+  pub drawn : Proper (first o) (second o)
+  pub on : OnLine (first o) (first o ⇀ second o) e
+  pub narrow-point : (isPoint e ≡ true) × (narrow e ≡ true)
+
+module _ {o : Object} (a : Accepted o) (n : o .kind ≡ pos 4 → ⊥) where
+  abbrev p : Vec
+  p = first o
+
+  abbrev d : Vec
+  d = first o ⇀ second o
+
+  both-lined : Lined o (firstEnd o) × Lined o (lastEnd o)
+  unfolding firstEnd lastEnd
+  both-lined = go (accepted-taken a)
+    where
+      ends-on : {f : Figure} → figure o ≡ f → Proper p (second o) → OnLine p d (firstOf f) → OnLine p d (lastOf f)
+          → Lined o (firstEnd o) × Lined o (lastEnd o)
+      ends-on e h x y = (
+        record { drawn = h; on = subst (λ (f : Figure). OnLine p d (firstOf f)) (sym e) x; narrow-point = first-end-is-point a },
+        record { drawn = h; on = subst (λ (f : Figure). OnLine p d (lastOf f)) (sym e) y; narrow-point = last-end-is-point a },
+      )
+
+      go : Taken o → Lined o (firstEnd o) × Lined o (lastEnd o)
+      go (a-segment k e h) = ends-on e h (on-line-given (cross-self d p)) (on-line-given (cross-same d))
+      go (a-ray k e h) = ends-on e h (on-line-given (cross-self d p)) (far-on-line p d (proper-way h))
+      go (a-line k e h) =
+          ends-on e h (on-line-back (far-on-line p (reverse d) (reverse-way p d (proper-way h)))) (far-on-line p d (proper-way h))
+      go (a-side k s e) = absurd (n k)
+
+abbrev HasEnds : Ends → Type 0
+HasEnds (ends.Both p q) = Unit {0}
+HasEnds (ends.Refused n) = ⊥
+
+has-ends : {e : Point} {r : Ends} → EndIn e r → HasEnds r
+has-ends as-first = tt
+has-ends as-last = tt
+
+-- an end that an answer gives for o
+pub end-lined : (o : Object) → (o .kind ≡ pos 4 → ⊥) → (r : Ends)
+    → endsSay r ≡ answer (objectRefusal o) (numbers (firstEnd o) ++ numbers (lastEnd o)) → (e : Point) → EndIn e r → Lined o e
+end-lined o n =
+    by-answer ends-one (λ (r : Ends). (e : Point) → EndIn e r → Lined o e)
+    (ends.Both (firstEnd o) (lastEnd o)) (ends.Refused (objectRefusal o)) refl refl
+    (λ z. given (record { accepted = z }))
+    (λ z e i. absurd (has-ends i))
+  where
+    given : Accepted o → (e : Point) → EndIn e (ends.Both (firstEnd o) (lastEnd o)) → Lined o e
+    given a e as-first = both-lined a n .0
+    given a e as-last = both-lined a n .1
+
+pub lined-apart : {o u : Object} {p q : Point} → Parallel o u → Lined o p → Lined u q → p ≡ q → ⊥
+lined-apart {o} {u} {p} h a b e =
+    h .other-k
+    (same-k (first o) (first o ⇀ second o) (first u) (first u ⇀ second u) (proper-way (b .drawn) .moves) (h .one-direction)
+    (point-sizes (point-is p .0 (a .narrow-point .0)) .in-w .above) (a .on)
+    (subst (OnLine (first u) (first u ⇀ second u)) (sym e) (b .on)))
