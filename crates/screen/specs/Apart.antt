@@ -1,17 +1,17 @@
 -- Two fractions n/w of narrow points that one float shows are equal: different ones differ by more than rounding can hide. To cite:
---   Slight         n and w as in a narrow point;  slight-parts   they may be divided
+--   Slight         n and w as in a narrow point
 --   hidden         where the quotients are equal, |w n′ - w′ n| times 2 ^ 53 is at most 2 times 4,000 times 8,000,000
 --   one-quotient   so it is 0
 -- Assumes nothing.
 use mathlib.Core.Path.{_≡_, sym, ap, subst}
 use mathlib.Core.List.{[], _∷_}
 use Prim.Native.Nat.{ℕ, _+_, _*_, _^_, _≤_, _<_}
-use native.Mathlib.Nat.{le-trans, le-of-eq, le-refl, mul-right-comm, mul-le-mul-right, le-of-mul-le-mul-right}
+use native.Mathlib.Nat.{le-trans, le-of-eq, mul-right-comm, mul-le-mul-right, le-of-mul-le-mul-right}
 use native.Mathlib.Omega.{arith}
 use lib.IntN.{ℤ, pos, negsuc, natAbs, _*ℤ_, _-ℤ_}
 use lib.Ieee.{Float}
 use Rattle.whole.specs.Laws.{eq-of-sub}
-use Rattle.whole.specs.Bound.{Within, w-is, w-sub, w-mul, w-lit, natAbs-mul}
+use Rattle.whole.specs.Bound.{Within, w-self, w-is, w-sub, w-mul, w-lit, natAbs-mul}
 use Rattle.whole.specs.Reify.{reify, reading, solve}
 use Rattle.sheet.specs.PointsLaws.{Upto}
 use Rattle.screen.specs.Quotient.{quotient, over, under, Near}
@@ -22,11 +22,8 @@ pub record Slight (n w : ℤ) : Type 0 where
   pub in-n : Within 8000000 n
   pub in-w : Upto 4000 w
 
-pub slight-parts : {n w : ℤ} → Slight n w → Parts n w
+slight-parts : {n w : ℤ} → Slight n w → Parts n w
 slight-parts s = record { in-n = w-lit (s .in-n) tt; in-w = record { above = s .in-w .above; at-most = w-lit (s .in-w .at-most) tt } }
-
-itself : (z : ℤ) → Within (natAbs z) z
-itself z = record { within = le-refl (natAbs z) }
 
 none : (z : ℤ) → natAbs z ≡ 0 → z ≡ pos 0
 none (pos n) e = ap pos e
@@ -60,7 +57,7 @@ module _ {n w n′ w′ : ℤ} (a : Slight n w) (b : Slight n′ w′) (e : quot
       let z = w *ℤ n′ -ℤ w′ *ℤ n in
       let far = quotient-near (slight-parts a) in
       let far′ = subst (Near n′ w′) (sym e) (quotient-near (slight-parts b)) in
-      let s = w-is (both P (pos Q)) (w-sub (w-mul (b .in-w .at-most) (itself d)) (w-mul (a .in-w .at-most) (itself d′))) in
+      let s = w-is (both P (pos Q)) (w-sub (w-mul (b .in-w .at-most) (w-self d)) (w-mul (a .in-w .at-most) (w-self d′))) in
       squeezed (natAbs z) (natAbs d) (natAbs d′) Q (far .above)
       (le-trans (le-of-eq (sym (natAbs-mul z (pos Q)))) (s .within)) (off a far) (off b far′)
 

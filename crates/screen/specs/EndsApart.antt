@@ -1,9 +1,9 @@
 -- Two parallel objects that are not on one line have no end in common. To cite:
 --   Lined, end-lined   an end that an answer of `ends_of` gives is a narrow point on the line of the object's p and q
---   same-k             where a point is on two parallel lines, k is the same
---   lined-apart        so two parallel objects with different k have no such end in common
+--   lined-apart        two parallel objects with different k have no such end in common
 -- Assumes nothing.
-use mathlib.Core.Path.{_≡_, refl, sym, _∙_, subst}
+use mathlib.Core.Path.{_≡_, refl, sym, subst}
+use mathlib.Core.Logic.{inl, inr}
 use mathlib.Core.Bool.{true}
 use mathlib.Core.List.{[], _∷_, _++_}
 use lib.IntN.{ℤ, pos, negsuc, _-ℤ_, _*ℤ_}
@@ -26,10 +26,10 @@ use Rattle.sheet.specs.RefusalLaws.{Proper, Taken, a-segment, a-ray, a-line, a-
 use Rattle.sheet.specs.PointsLaws.{point-is, point-sizes}
 use Rattle.sheet.specs.EndsLaws.{proper-way, reverse-way, first-end-is-point, last-end-is-point}
 use Rattle.sheet.specs.OnLine.{OnLine, on-line-given, on-line-back, far-on-line, parallel, cross-self, cross-same, cross-turned}
-use Rattle.screen.specs.Shown.{EndIn, as-first, as-last, Parallel}
+use Rattle.screen.specs.Shown.{EndIn, Parallel}
 
 -- f, which is not 0, is parallel to d. So the point is on the line through r in the direction d too, and w k is the same for both.
-pub same-k : (p d r f : Vec) {e : Point} → (f .x ≡ pos 0 → f .y ≡ pos 0 → ⊥) → cross d f ≡ pos 0 → pos 0 <ℤ e .w → OnLine p d e → OnLine r f e
+same-k : (p d r f : Vec) {e : Point} → (f .x ≡ pos 0 → f .y ≡ pos 0 → ⊥) → cross d f ≡ pos 0 → pos 0 <ℤ e .w → OnLine p d e → OnLine r f e
     → moment p d ≡ moment r d
 same-k p d r f {e} n h above a b =
     let u : Vec = record { x = e .nx -ℤ e .w *ℤ r .x; y = e .ny -ℤ e .w *ℤ r .y } in
@@ -74,14 +74,6 @@ module _ {o : Object} (a : Accepted o) (n : o .kind ≡ pos 4 → ⊥) where
           ends-on e h (on-line-back (far-on-line p (reverse d) (reverse-way p d (proper-way h)))) (far-on-line p d (proper-way h))
       go (a-side k s e) = absurd (n k)
 
-abbrev HasEnds : Ends → Type 0
-HasEnds (ends.Both p q) = Unit {0}
-HasEnds (ends.Refused n) = ⊥
-
-has-ends : {e : Point} {r : Ends} → EndIn e r → HasEnds r
-has-ends as-first = tt
-has-ends as-last = tt
-
 -- an end that an answer gives for o
 pub end-lined : (o : Object) → (o .kind ≡ pos 4 → ⊥) → (r : Ends)
     → endsSay r ≡ answer (objectRefusal o) (numbers (firstEnd o) ++ numbers (lastEnd o)) → (e : Point) → EndIn e r → Lined o e
@@ -89,11 +81,11 @@ end-lined o n =
     by-answer ends-one (λ (r : Ends). (e : Point) → EndIn e r → Lined o e)
     (ends.Both (firstEnd o) (lastEnd o)) (ends.Refused (objectRefusal o)) refl refl
     (λ z. given (record { accepted = z }))
-    (λ z e i. absurd (has-ends i))
+    (λ z e i. absurd i)
   where
     given : Accepted o → (e : Point) → EndIn e (ends.Both (firstEnd o) (lastEnd o)) → Lined o e
-    given a e as-first = both-lined a n .0
-    given a e as-last = both-lined a n .1
+    given a e (inl i) = subst (Lined o) (sym i) (both-lined a n .0)
+    given a e (inr i) = subst (Lined o) (sym i) (both-lined a n .1)
 
 pub lined-apart : {o u : Object} {p q : Point} → Parallel o u → Lined o p → Lined u q → p ≡ q → ⊥
 lined-apart {o} {u} {p} h a b e =

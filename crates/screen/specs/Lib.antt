@@ -12,7 +12,7 @@ pub mod ExtentsLaws
 pub mod Shown
 pub mod PlaceShown
 pub mod Apart
-pub mod SamePlace
+pub mod EqualPlaces
 pub mod EndsApart
 pub mod Surrounds
 pub mod Worked

@@ -2,6 +2,7 @@
 -- what the box r has to do with the list l; and which objects have no place of an end in common. Definitions alone; `proofs/Shows` shows them
 -- of the calls.
 use mathlib.Core.Path.{_≡_}
+use mathlib.Core.Logic.{_⊎_}
 use mathlib.Core.Bool.{true, false}
 use mathlib.Core.List.{List, [], _∷_}
 use Prim.Native.Nat.{ℕ, _<_}
@@ -37,12 +38,12 @@ pub data Shown (p : Point) : Place → Type 0 where
 -- ---- parallel objects
 
 -- p is one of the ends that an answer gives
-pub data EndIn (p : Point) : Ends → Type 0 where
-  as-first : {q : Point} → EndIn p (ends.Both p q)
-  as-last : {q : Point} → EndIn p (ends.Both q p)
+abbrev pub EndIn : Point → Ends → Type 0
+EndIn p (ends.Both a b) = (p ≡ a) ⊎ (p ≡ b)
+EndIn p (ends.Refused n) = ⊥
 
--- "parallel gauge lines": p and q of the one and of the other lie in one direction, and the two have not the same k = dx py - dy px. k is that
--- of both p with dx and dy of the first object: those of the second may be longer, or turned round.
+-- "two parallel gauge lines": segments, rays or lines that run in one direction, with different k. "k = dx py - dy px" is taken with dx and dy
+-- of the first for both, since those of the second may be longer, or turned round.
 pub record Parallel (o u : Object) : Type 0 where
   pub no-sides : (o .kind ≡ pos 4 → ⊥) × (u .kind ≡ pos 4 → ⊥)
   pub one-direction : cross (first o ⇀ second o) (first u ⇀ second u) ≡ pos 0

@@ -20,7 +20,7 @@ use Rattle.screen.specs.Told.{Told}
 use Rattle.screen.specs.Quotient.{zero+, float, quotient, Near}
 use Rattle.screen.specs.Places.{placeSays, sideWhere, placeOf}
 use Rattle.screen.specs.Shown.{Parallel}
-use Rattle.screen.specs.Extents.{endsOf, farthest, extreme, extentOf, extentSays, boxedSays}
+use Rattle.screen.specs.Extents.{endsOf, farthest, extreme, extentOf, boxedSays}
 
 -- ---- places
 

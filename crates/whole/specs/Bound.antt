@@ -1,6 +1,6 @@
 -- `Within n z`: z is at most n away from 0. To cite:
 --   w-add, w-sub, w-neg, w-mul, w-pos, w-negsuc, w-sgn, w-quot, w-size   the operations
---   w-weak, w-lit, w-is      a larger bound; between literals; in other words
+--   w-self, w-weak, w-lit, w-is   its own size; a larger bound; between literals; in other words
 --   w-upper, w-lower, w-intro   as two orders
 --   natAbs-neg, natAbs-mul   the size of an opposite, of a product
 --   fits64, of-fits          such a number fits an i64, and what fits is within 2 ^ 63
@@ -56,6 +56,9 @@ w-sub h k = w-add h (w-neg k)
 
 pub w-mul : {m n : ℕ} {a b : ℤ} → Within m a → Within n b → Within (m * n) (a *ℤ b)
 w-mul {m} {n} {a} {b} h k = record { within = le-trans (le-of-eq (natAbs-mul a b)) (mul-le-mul (h .within) (k .within)) }
+
+pub w-self : (z : ℤ) → Within (natAbs z) z
+w-self z = record { within = le-refl (natAbs z) }
 
 pub w-pos : (n : ℕ) → Within n (pos n)
 w-pos n = record { within = le-refl n }

@@ -12,7 +12,6 @@ use mathlib.Core.Path.{_≡_, refl, sym, _∙_, ap, ap₂, subst}
 use mathlib.Core.List.{List, [], _∷_}
 use mathlib.Core.Bool.{Bool, _&&_}
 use Prim.Native.Nat.{ℕ, zero, suc, _+_, _*_, _^_}
-use native.Mathlib.Nat.{le-refl}
 use lib.Dec.{T, ltb}
 use lib.Ieee.Fits.{and-l, and-r}
 use lib.IntN.{ℤ, pos, negℤ, natAbs, _+ℤ_, _-ℤ_, _*ℤ_}
@@ -20,7 +19,7 @@ use lib.Signed.{ltZ}
 use mir.Syntax.{w64}
 use mir.Val.{SFits, ofZ}
 use Rattle.whole.specs.Ring.{Expr, var, con, lit, _⊕_, _⊖_, _⊗_, ⊝_, at, ev}
-use Rattle.whole.specs.Bound.{Within, fits64, w-is, w-add, w-sub, w-neg, w-mul, w-pos}
+use Rattle.whole.specs.Bound.{Within, fits64, w-self, w-is, w-add, w-sub, w-neg, w-mul, w-pos}
 use Rattle.whole.specs.Tests.{out, out-is, eq-taken, eq-left}
 
 -- a bound for each number: data, so that the two lists are inferred from it
@@ -96,9 +95,6 @@ two s t f g h w u =
 pub sound : (β : List ℕ) (ρ : List ℤ) → All β ρ → (e : Expr) → T (okay β e) → Sound (bnd β e) (mach ρ e) (raw ρ e) (ev ρ e)
 sound β ρ h (var i) t = op refl (all-at β ρ h i) t
 sound β ρ h (con c) t = record { same = refl; plain = refl; fits = fits64 (w-self c) t; small = w-self c }
-  where
-    w-self : (c : ℤ) → Within (natAbs c) c
-    w-self c = record { within = le-refl (natAbs c) }
 sound β ρ h (lit n) t = record { same = refl; plain = refl; fits = fits64 (w-pos n) t; small = w-pos n }
 sound β ρ h (a ⊕ b) t = two (okay β a) (okay β b) (λ (p q : ℤ). p +ℤ q) (sound β ρ h a) (sound β ρ h b) w-add t
 sound β ρ h (a ⊖ b) t = two (okay β a) (okay β b) (λ (p q : ℤ). p -ℤ q) (sound β ρ h a) (sound β ρ h b) w-sub t

@@ -1,6 +1,5 @@
 -- "Two frame points then give equal edges exactly when they are equal", and so do any two narrow points their places. To cite:
---   places-one     two narrow points whose places say the same are equal
---   same-place     any two answers that meet the contract of `place_of` for two narrow points are equal exactly when the points are
+--   places-equal   any two answers that meet the contract of `place_of` for two narrow points are equal exactly when the points are
 --   frame-narrow   frame points are narrow
 -- Assumes nothing.
 use mathlib.Core.Path.{_≡_, sym, _∙_, ap, subst}
@@ -21,7 +20,7 @@ use Rattle.screen.specs.declared.Place.{Place}
 use Rattle.screen.specs.Quotient.{quotient}
 use Rattle.screen.specs.Told.{Told, answered}
 use Rattle.screen.specs.ToldLaws.{as-many-wholes}
-use Rattle.screen.specs.Places.{placeSays, exactly, isOn, goesTo, sideWhere, mAlong, nAlong, positionOf, edgeOf, placeOf}
+use Rattle.screen.specs.Places.{placeSays, isOn, goesTo, sideWhere, mAlong, nAlong, positionOf, edgeOf, placeOf}
 use Rattle.screen.specs.PlacesLaws.{place-one, side-where, frame-standard, place-standard, place-frame, along-by}
 use Rattle.screen.specs.Apart.{Slight, one-quotient}
 
@@ -78,8 +77,8 @@ module _ {p q : Point} (a : APoint p) (b : APoint q) where
 is-on : (s : Side) (p : Point) → goesTo s p ≡ true → isOn s p ≡ true
 is-on s p e = both (isOn s p) (not (isOn (nextSide s) p)) .0 e .0
 
-side-one : (s t : Side) → sideNumber s ≡ sideNumber t → s ≡ t
-side-one s t e = sym (side-of s) ∙ ap sideOf e ∙ side-of t
+side-by-number : (s t : Side) → sideNumber s ≡ sideNumber t → s ≡ t
+side-by-number s t e = sym (side-of s) ∙ ap sideOf e ∙ side-of t
 
 module _ {p q : Point} (f : Frame p) (g : Frame q) (dp : divisor p ≡ 1) (dq : divisor q ≡ 1) where
   -- q, by the side of p
@@ -89,24 +88,24 @@ module _ {p q : Point} (f : Frame p) (g : Frame q) (dp : divisor p ≡ 1) (dq : 
       × (quotient (mAlong (sideWhere p) p) (p .w) ≡ quotient (mAlong s q) (q .w))
       × (quotient (nAlong (sideWhere p) p) (p .w) ≡ quotient (nAlong s q) (q .w))
 
-  edge-one : edgeOf p ≡ edgeOf q → p ≡ q
-  edge-one e =
+  by-edge : edgeOf p ≡ edgeOf q → p ≡ q
+  by-edge e =
       let wholes = ap (λ (t : Told). t .wholes) e in
       let floats = ap (λ (t : Told). t .floats) e in
       let number : sideNumber (sideWhere p) ≡ sideNumber (sideWhere q) = cc in
       let slopes : quotient (mAlong (sideWhere p) p) (p .w) ≡ quotient (mAlong (sideWhere q) q) (q .w) = cc in
       let offsets : quotient (nAlong (sideWhere p) p) (p .w) ≡ quotient (nAlong (sideWhere q) q) (q .w) = cc in
       let s = sideWhere p in
-      let h = subst SameOn (sym (side-one s (sideWhere q) number)) (side-where g, slopes, offsets) in
+      let h = subst SameOn (sym (side-by-number s (sideWhere q) number)) (side-where g, slopes, offsets) in
       joined (a-frame f dp) (a-frame g dq) s (is-on s p (side-where f)) (is-on s q (h .0))
       (one-quotient (slight-m s f) (slight-m s g) (h .1))
       (one-quotient (slight-n s f) (slight-n s g) (h .2))
 
 -- ---- places that say the same
 
-position-one : {p q : Point} → Standard p → Standard q → divisor p ≡ 1 → divisor q ≡ 1 → Narrow p → Narrow q
+by-position : {p q : Point} → Standard p → Standard q → divisor p ≡ 1 → divisor q ≡ 1 → Narrow p → Narrow q
     → positionOf p ≡ positionOf q → p ≡ q
-position-one {p} {q} f g dp dq np nq e =
+by-position {p} {q} f g dp dq np nq e =
     let floats = ap (λ (t : Told). t .floats) e in
     let xs : quotient (p .nx) (p .w) ≡ quotient (q .nx) (q .w) = cc in
     let ys : quotient (p .ny) (p .w) ≡ quotient (q .ny) (q .w) = cc in
@@ -114,15 +113,15 @@ position-one {p} {q} f g dp dq np nq e =
     (zeros (p .w) (q .w) (f .no-mx) (g .no-mx)) (one-quotient (slight-x np) (slight-x nq) xs)
     (zeros (p .w) (q .w) (f .no-my) (g .no-my)) (one-quotient (slight-y np) (slight-y nq) ys)
 
-pub places-one : {p q : Point} → APoint p → APoint q → Narrow p → Narrow q → placeOf p ≡ placeOf q → p ≡ q
-places-one {p} {q} (a-standard f dp) (a-standard g dq) np nq e =
-    position-one f g dp dq np nq (sym (place-standard p (standard-is p .1 f)) ∙ e ∙ place-standard q (standard-is q .1 g))
-places-one {p} {q} (a-standard f dp) (a-frame g dq) np nq e =
+by-place : {p q : Point} → APoint p → APoint q → Narrow p → Narrow q → placeOf p ≡ placeOf q → p ≡ q
+by-place {p} {q} (a-standard f dp) (a-standard g dq) np nq e =
+    by-position f g dp dq np nq (sym (place-standard p (standard-is p .1 f)) ∙ e ∙ place-standard q (standard-is q .1 g))
+by-place {p} {q} (a-standard f dp) (a-frame g dq) np nq e =
     let z = as-many-wholes (sym (place-standard p (standard-is p .1 f)) ∙ e ∙ place-frame q (frame-standard g)) in absurd (omega arith)
-places-one {p} {q} (a-frame f dp) (a-standard g dq) np nq e =
+by-place {p} {q} (a-frame f dp) (a-standard g dq) np nq e =
     let z = as-many-wholes (sym (place-frame p (frame-standard f)) ∙ e ∙ place-standard q (standard-is q .1 g)) in absurd (omega arith)
-places-one {p} {q} (a-frame f dp) (a-frame g dq) np nq e =
-    edge-one f g dp dq (sym (place-frame p (frame-standard f)) ∙ e ∙ place-frame q (frame-standard g))
+by-place {p} {q} (a-frame f dp) (a-frame g dq) np nq e =
+    by-edge f g dp dq (sym (place-frame p (frame-standard f)) ∙ e ∙ place-frame q (frame-standard g))
 
 -- ---- of what `place_of` answers
 
@@ -130,14 +129,14 @@ said : (p : Point) (r : Place) → isPoint p ≡ true → placeSays r ≡ answer
 unfolding pointRefusal
 said p r h e = e ∙ ap (λ (t : Bool). answered (cond t (pos 0) (pos 5)) (placeOf p)) h
 
-pub same-place : (p q : Point) (r s : Place)
+pub places-equal : (p q : Point) (r s : Place)
     → placeSays r ≡ answered (pointRefusal p) (placeOf p) → placeSays s ≡ answered (pointRefusal q) (placeOf q)
     → (isPoint p ≡ true) × (narrow p ≡ true) → (isPoint q ≡ true) × (narrow q ≡ true) → (r ≡ s) ↔ (p ≡ q)
-same-place p q r s er es hp hq = (to, from)
+places-equal p q r s er es hp hq = (to, from)
   where
     to : r ≡ s → p ≡ q
     to e =
-        places-one (point-is p .0 (hp .0)) (point-is q .0 (hq .0)) (narrow-is p .0 (hp .1)) (narrow-is q .0 (hq .1))
+        by-place (point-is p .0 (hp .0)) (point-is q .0 (hq .0)) (narrow-is p .0 (hp .1)) (narrow-is q .0 (hq .1))
         (sym (said p r (hp .0) er) ∙ ap placeSays e ∙ said q s (hq .0) es)
 
     from : p ≡ q → r ≡ s
