@@ -1,6 +1,6 @@
 -- Places, boxes and the bound of their floats, worked out by document 01's words. A definition that says something else is refused here,
 -- whatever the code does.
-use mathlib.Core.Path.{_≡_, refl, ap}
+use mathlib.Core.Path.{_≡_, refl, sym, ap}
 use mathlib.Core.Bool.{Bool, true, false, true≢false}
 use mathlib.Core.List.{List, [], _∷_}
 use lib.Dec.{le→leb, lit≤, lit<}
@@ -10,16 +10,19 @@ use Rattle.whole.specs.Sign.{sgn}
 use Rattle.whole.specs.Divisor.{steps, gcd, gcdOf}
 use Rattle.whole.specs.Tests.{eqZ-false}
 use Rattle.sheet.specs.declared.Object.{Object}
-use Rattle.sheet.specs.Figure.{Vec, figure}
-use Rattle.sheet.specs.Points.{divided, standard}
+use Rattle.sheet.specs.declared.Point.{Point}
+use Rattle.sheet.specs.Figure.{Vec, Side, left, bottom, right, top, sideNumber, figure}
+use Rattle.sheet.specs.Points.{divided, standard, narrow, frame}
+use Rattle.sheet.specs.PointsLaws.{frame-is}
 use Rattle.sheet.specs.Ends.{farRaw, farEnd, firstEnd, lastEnd}
 use Rattle.sheet.specs.Cases.{minus, point, at, segment, ray, line, side}
+use Rattle.screen.specs.declared.Place.{Place}
 use Rattle.screen.specs.declared.Place.the-variants as place
 use Rattle.screen.specs.declared.Boxed.the-variants as boxed
 use Rattle.screen.specs.Told.{Told}
 use Rattle.screen.specs.Quotient.{zero+, float, quotient, Near}
-use Rattle.screen.specs.Places.{placeSays, sideWhere, placeOf}
-use Rattle.screen.specs.Shown.{Parallel}
+use Rattle.screen.specs.Places.{placeSays, goesTo, sideWhere, mAlong, nAlong, placeOf}
+use Rattle.screen.specs.Shown.{Shown, a-position, an-edge, no-point, Parallel}
 use Rattle.screen.specs.Extents.{endsOf, farthest, extreme, extentOf, boxedSays}
 
 -- ---- places
@@ -196,4 +199,43 @@ worked-near = record {
   not-below = λ h. true≢false (ap is-below (h .at-zero refl));
   a-number = λ h. h .number;
   not-endless = λ h. h .number;
+}
+
+-- ---- what is shown of an edge, at (R, 1) on the right side, with slope 0 and offset 1
+
+abbrev east : Point
+east = point (pos 1) (pos 0) (pos 0) (pos 1) (pos 1)
+
+pub record WorkedShown : Type 0 where
+  exact : Shown east (place.Edge (pos 3) zero+ one)
+  -- the offset is one part in 2^53 off, and two; the slope is -0; another side
+  offset-just-near : Shown east (place.Edge (pos 3) zero+ below)
+  offset-not-near : Shown east (place.Edge (pos 3) zero+ above) → ⊥
+  slope-not-below : Shown east (place.Edge (pos 3) zero- one) → ⊥
+  other-side : Shown east (place.Edge (pos 1) zero+ one) → ⊥
+
+abbrev OfEdge : Point → Place → Type 0
+OfEdge p (place.At x y) = Unit {0}
+OfEdge p (place.Edge n t o) = (s : Side) × (goesTo s p ≡ true) × (n ≡ sideNumber s) × Near (mAlong s p) (p .w) t × Near (nAlong s p) (p .w) o
+OfEdge p (place.Refused n) = Unit {0}
+
+of-edge : {p : Point} {r : Place} → Shown p r → OfEdge p r
+of-edge (a-position f x y) = tt
+of-edge (an-edge s f g t o) = (s, g, refl, t, o)
+of-edge (no-point e) = tt
+
+on-the-right : {n : ℤ} {t o : Float} → OfEdge east (place.Edge n t o) → (n ≡ pos 3) × Near (pos 0) (pos 1) t × Near (pos 1) (pos 1) o
+on-the-right (left, e, n, t, o) = absurd (true≢false (sym e))
+on-the-right (bottom, e, n, t, o) = absurd (true≢false (sym e))
+on-the-right (right, e, n, t, o) = (n, t, o)
+on-the-right (top, e, n, t, o) = absurd (true≢false (sym e))
+
+pub worked-shown : WorkedShown
+unfolding sgn narrow frame
+worked-shown = record {
+  exact = an-edge right (frame-is east .0 refl) refl (worked-near .zero-is-above) (worked-near .exact);
+  offset-just-near = an-edge right (frame-is east .0 refl) refl (worked-near .zero-is-above) (worked-near .just-near);
+  offset-not-near = λ h. worked-near .not-near (on-the-right (of-edge h) .2);
+  slope-not-below = λ h. worked-near .not-below (on-the-right (of-edge h) .1);
+  other-side = λ h. eqZ-false {a = pos 1} {b = pos 3} refl (on-the-right (of-edge h) .0);
 }
