@@ -1,10 +1,11 @@
 -- Places, boxes and the bound of their floats, worked out by document 01's words. A definition that says something else is refused here,
 -- whatever the code does.
-use mathlib.Core.Path.{_≡_, refl, sym, ap}
+use mathlib.Core.Path.{_≡_, refl, sym, _∙_, ap}
 use mathlib.Core.Bool.{Bool, true, false, true≢false}
 use mathlib.Core.List.{List, [], _∷_}
 use lib.Dec.{le→leb, lit≤, lit<}
-use lib.Ieee.{Float, nan, inf, fin}
+use lib.Count.{trailingZeros}
+use lib.Ieee.{Float, nan, inf, fin, span, climb, size, odd, units, round, div, ofInt}
 use lib.IntN.{ℤ, pos, negsuc}
 use Rattle.whole.specs.Sign.{sgn}
 use Rattle.whole.specs.Divisor.{steps, gcd, gcdOf}
@@ -12,7 +13,7 @@ use Rattle.whole.specs.Tests.{eqZ-false}
 use Rattle.sheet.specs.declared.Object.{Object}
 use Rattle.sheet.specs.declared.Point.{Point}
 use Rattle.sheet.specs.Figure.{Vec, Side, left, bottom, right, top, sideNumber, figure}
-use Rattle.sheet.specs.Points.{divided, standard, narrow, frame}
+use Rattle.sheet.specs.Points.{divided, standard, narrow, frame, isPoint}
 use Rattle.sheet.specs.PointsLaws.{frame-is}
 use Rattle.sheet.specs.Ends.{farRaw, farEnd, firstEnd, lastEnd}
 use Rattle.sheet.specs.Cases.{minus, point, at, segment, ray, line, side}
@@ -71,6 +72,28 @@ worked-places = record {
   beside-the-corners = (refl, refl, refl, refl);
   said = (refl, refl, refl);
 }
+
+-- ---- two wide points with one place: 2000 - 1/w is the same float for w of 32,000,000 and of 31,999,999
+
+abbrev level : ℤ → ℤ → Point
+level x w = point (pos 0) x (pos 0) (pos 0) w
+
+pub record WorkedWide : Type 0 where
+  are-points : (isPoint (level (pos 63999999999) (pos 32000000)) ≡ true) × (isPoint (level (pos 63999997999) (pos 31999999)) ≡ true)
+  one-place : placeOf (level (pos 63999999999) (pos 32000000)) ≡ placeOf (level (pos 63999997999) (pos 31999999))
+
+pub worked-wide : WorkedWide
+unfolding sgn steps gcd gcdOf standard narrow frame isPoint placeOf float quotient ofInt div round units odd trailingZeros size climb span
+worked-wide =
+    let f : Float = fin false 8796093022070561 (negsuc 41) in
+    let x : quotient (pos 63999999999) (pos 32000000) ≡ f = refl in
+    let x′ : quotient (pos 63999997999) (pos 31999999) ≡ f = refl in
+    let y : quotient (pos 0) (pos 32000000) ≡ zero+ = refl in
+    let y′ : quotient (pos 0) (pos 31999999) ≡ zero+ = refl in
+    record {
+      are-points = (refl, refl);
+      one-place = λ i. record { wholes = pos 0 ∷ []; floats = (x ∙ sym x′) i ∷ (y ∙ sym y′) i ∷ [] };
+    }
 
 -- ---- parallel lines, told apart by n alone: row 4's and row 6's, (0, 1) to (2, 2) and (0, 0) to (2, 1)
 
