@@ -5,7 +5,8 @@ import math
 LINES = {'(0, 1) to (2, 2)': (3, 0, 1, 2, 2), '(0, 0) to (2, 1)': (3, 0, 0, 2, 1)}   # those of rows 4 and 6
 COLOURS = ('#0072B2', '#D55E00')
 R, MM = 6, 30                                                                       # in millimetres; pixels a millimetre
-TOP, LEFTS = 80, (40, 580)                                                          # of the two frames, in pixels
+TOP, LEFTS, LEGEND, FOOT = 80, (40, 580), (470, 490), 515                           # of the two frames, the lines' names and the last words
+LENGTH, SPREAD = 20, 0.4                                                            # of an arrowhead, in pixels; to either side, in radians
 
 
 def spot(left, side, along):
@@ -14,10 +15,10 @@ def spot(left, side, along):
     return left + (x + R) * MM, TOP + (R - y) * MM
 
 
-def head(tail, tip):
-    """An arrowhead at tip, the way from tail: its three corners."""
-    way = math.atan2(tip[1] - tail[1], tip[0] - tail[0])
-    back = [(tip[0] - 20 * math.cos(way + turn), tip[1] - 20 * math.sin(way + turn)) for turn in (-0.4, 0.4)]
+def head(tip, way):
+    """An arrowhead: its three corners."""
+    angle = math.atan2(way[1], way[0])
+    back = [(tip[0] - LENGTH * math.cos(angle + turn), tip[1] - LENGTH * math.sin(angle + turn)) for turn in (-SPREAD, SPREAD)]
     return ' '.join(f'{x:.1f},{y:.1f}' for x, y in (tip, *back))
 
 
@@ -27,14 +28,14 @@ def frame(left, title, places, offsets):
     yield f'<text x="{left}" y="50" font-size="17">{title}</text>'
     yield f'<rect x="{left}" y="{TOP}" width="{size}" height="{size}" fill="#f4f4f4" stroke="black" stroke-width="2"/>'
     for (first, last), colour in zip(places, COLOURS):
-        (x1, y1), (x2, y2) = true = [spot(left, side, slope * R + offset) for side, slope, offset in (first, last)]
+        (x1, y1), (x2, y2) = [spot(left, side, slope * R + offset) for side, slope, offset in (first, last)]
         yield f'<line x1="{x1:g}" y1="{y1:g}" x2="{x2:g}" y2="{y2:g}" stroke="{colour}" stroke-width="2"/>'
-        (x1, y1), (x2, y2) = [spot(left, side, slope * R + offset * offsets) for side, slope, offset in (first, last)]
-        tail, tip = true
+        way = x2 - x1, y2 - y1
+        (x1, y1), (x2, y2) = [spot(left, side, slope * R + (offset if offsets else 0)) for side, slope, offset in (first, last)]
         yield f'<circle cx="{x1:g}" cy="{y1:g}" r="6" fill="none" stroke="{colour}" stroke-width="2"/>'
-        yield f'<polygon points="{head((x2 - tip[0] + tail[0], y2 - tip[1] + tail[1]), (x2, y2))}" fill="{colour}"/>'
-        labels[x2 + 8, y2 + 5] = 'side {}, slope {:g}'.format(*last) + f', offset {last[2]:g}' * offsets
-    for (x, y), words in labels.items():
+        yield f'<polygon points="{head((x2, y2), way)}" fill="{colour}"/>'
+        labels[x2 + 8, y2 + 5] = 'side {}, slope {:g}'.format(*last) + (f', offset {last[2]:g}' if offsets else '')
+    for (x, y), words in labels.items():  # one label a spot
         yield f'<text x="{x:g}" y="{y:g}">{words}</text>'
 
 
@@ -45,7 +46,7 @@ def picture(places):
     yield '<rect width="100%" height="100%" fill="white"/>'
     yield from frame(LEFTS[0], 'By side and slope: one arrowhead over the other', places, False)
     yield from frame(LEFTS[1], 'By side, slope and offset: each on its line', places, True)
-    for y, name, colour in zip((470, 490), LINES, COLOURS):
+    for y, name, colour in zip(LEGEND, LINES, COLOURS):
         yield f'<text x="{LEFTS[0]}" y="{y}" fill="{colour}">line {name}</text>'
-    yield f'<text x="{LEFTS[0]}" y="515" font-size="12">R is larger than any number that is given; here it is drawn as {R} mm. An arrowhead is at slope times R, plus offset.</text>'
+    yield f'<text x="{LEFTS[0]}" y="{FOOT}" font-size="12">R is larger than any number that is given; here it is drawn as {R} mm. An arrowhead is at slope times R, plus offset.</text>'
     yield '</svg>'

@@ -1,6 +1,7 @@
 -- What the paper promises of places and boxes, of the contracts themselves (`Post`). To cite:
 --   place-shows      "it is shown to meet |P w - n Q| times 2^53 at most |n| Q, and zero gives +0"; the side; 5 of no point alone
---   equal-edges      "Two frame points then give equal edges exactly when they are equal";  equal-places   two narrow points their places
+--   equal-edges      "Two frame points then give equal edges exactly when they are equal"; the second may be any five numbers
+--   equal-places     the same where the first is a narrow point
 --   parallel-edges   two parallel lines with different k have different ends, and so different edges
 --   box-shows        "lowest and highest x and y over its standard ends; with none, all four are +0 and a flag says so"
 use mathlib.Core.Path.{_≡_}
@@ -14,12 +15,13 @@ use Rattle.sheet.specs.declared.Object.{Object}
 use Rattle.sheet.specs.declared.Point.{Point}
 use Rattle.sheet.specs.declared.Ends.{Ends}
 use Rattle.sheet.specs.Points.{narrow, frame, isPoint}
+use Rattle.sheet.specs.PointsLaws.{narrow-is, frame-is}
 use Rattle.kernel.proofs.ends.ends_of.Reads as ends-of
 use Rattle.screen.specs.declared.Place.{Place}
 use Rattle.screen.specs.declared.Boxed.{Boxed}
 use Rattle.screen.specs.Shown.{Shown, EndIn, Parallel, BoxShown}
 use Rattle.screen.specs.PlaceShown.{shown}
-use Rattle.screen.specs.EqualPlaces.{places-equal, frame-narrow}
+use Rattle.screen.specs.EqualPlaces.{places-equal}
 use Rattle.screen.specs.EndsApart.{end-lined, lined-apart}
 use Rattle.screen.specs.BoxShown.{box-shown}
 use Rattle.screen.proofs.places.place_of.Reads as place-of
@@ -30,11 +32,11 @@ place-shows κs p r = shown p r
 
 -- r and s are places that were given for p and q
 module _ (κs : Lfts 0) (p q : Point) (r s : Place) (h : place-of.Post κs (p, tt) r (p, tt)) (k : place-of.Post κs (q, tt) s (q, tt)) where
-  pub equal-places : (isPoint p ≡ true) × (narrow p ≡ true) → (isPoint q ≡ true) × (narrow q ≡ true) → (r ≡ s) ↔ (p ≡ q)
+  pub equal-places : (isPoint p ≡ true) × (narrow p ≡ true) → (r ≡ s) ↔ (p ≡ q)
   equal-places = places-equal p q r s h k
 
-  pub equal-edges : (isPoint p ≡ true) × (frame p ≡ true) → (isPoint q ≡ true) × (frame q ≡ true) → (r ≡ s) ↔ (p ≡ q)
-  equal-edges f g = equal-places (f .0, frame-narrow p (f .1)) (g .0, frame-narrow q (g .1))
+  pub equal-edges : (isPoint p ≡ true) × (frame p ≡ true) → (r ≡ s) ↔ (p ≡ q)
+  equal-edges f = equal-places (f .0, narrow-is p .1 (frame-is p .0 (f .1) .slim))
 
   -- p and q are ends that were given for o and u
   pub parallel-edges : (o u : Object) (a b : Ends) → ends-of.Post κs (o, tt) a (o, tt) → ends-of.Post κs (u, tt) b (u, tt)
@@ -43,7 +45,7 @@ module _ (κs : Lfts 0) (p q : Point) (r s : Place) (h : place-of.Post κs (p, t
       let x = end-lined o (h .no-sides .0) a ea p i in
       let y = end-lined u (h .no-sides .1) b eb q j in
       let apart = lined-apart h x y in
-      (apart, λ e. apart (equal-places (x .narrow-point) (y .narrow-point) .0 e))
+      (apart, λ e. apart (equal-places (x .narrow-point) .0 e))
 
 pub box-shows : (κs : Lfts 1) (l : RefT (List ℤ)) (r : Boxed) → box-of.Post κs (l, tt) r (l, tt) → BoxShown (l .now) r
 box-shows κs l r = box-shown (l .now) r

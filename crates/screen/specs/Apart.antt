@@ -1,6 +1,6 @@
--- Two fractions n/w of narrow points that one float shows are equal: different ones differ by more than rounding can hide. To cite:
---   Slight         n and w as in a narrow point
---   hidden         where the quotients are equal, |w n′ - w′ n| times 2 ^ 53 is at most 2 times 4,000 times 8,000,000
+-- Two fractions of points, n/w and n′/w′, that one float shows are equal, where the one is as in a narrow point: different ones differ by more
+-- than rounding can hide. To cite:
+--   hidden         |w n′ - w′ n| times 2 ^ 53 is at most 32,000,000 times 8,000,000 and 4,000 times 64,000,000,000 together
 --   one-quotient   so it is 0
 -- Assumes nothing.
 use mathlib.Core.Path.{_≡_, sym, ap, subst}
@@ -17,49 +17,41 @@ use Rattle.sheet.specs.PointsLaws.{Upto}
 use Rattle.screen.specs.Quotient.{quotient, over, under, Near}
 use Rattle.screen.specs.QuotientLaws.{Parts, quotient-near}
 
--- "w at most 4,000, each n within 8,000,000"
-pub record Slight (n w : ℤ) : Type 0 where
-  pub in-n : Within 8000000 n
-  pub in-w : Upto 4000 w
+size-zero : (z : ℤ) → natAbs z ≡ 0 → z ≡ pos 0
+size-zero (pos n) e = ap pos e
+size-zero (negsuc n) e = absurd (omega arith)
 
-slight-parts : {n w : ℤ} → Slight n w → Parts n w
-slight-parts s = record { in-n = w-lit (s .in-n) tt; in-w = record { above = s .in-w .above; at-most = w-lit (s .in-w .at-most) tt } }
-
-none : (z : ℤ) → natAbs z ≡ 0 → z ≡ pos 0
-none (pos n) e = ap pos e
-none (negsuc n) e = absurd (omega arith)
-
--- k Q is at most 4,000 times two distances, of which each is at most 8,000,000 Q over 2 ^ 53
-squeezed : (k d d′ Q : ℕ) → 0 < Q → k * Q ≤ 4000 * d + 4000 * d′ → d * 2 ^ 53 ≤ 8000000 * Q → d′ * 2 ^ 53 ≤ 8000000 * Q
-    → k * 2 ^ 53 ≤ 64000000000
+-- k Q is at most 32,000,000 times d and 4,000 times d′, which are at most 8,000,000 Q and 64,000,000,000 Q over 2 ^ 53
+squeezed : (k d d′ Q : ℕ) → 0 < Q → k * Q ≤ 32000000 * d + 4000 * d′ → d * 2 ^ 53 ≤ 8000000 * Q → d′ * 2 ^ 53 ≤ 64000000000 * Q
+    → k * 2 ^ 53 ≤ 512000000000000
 squeezed k d d′ Q h s l l′ =
     let e : k * 2 ^ 53 * Q ≡ k * Q * 2 ^ 53 = mul-right-comm k (2 ^ 53) Q in
     le-of-mul-le-mul-right (le-trans (le-of-eq e) (omega arith)) h
 
-module _ {n w n′ w′ : ℤ} (a : Slight n w) (b : Slight n′ w′) (e : quotient n w ≡ quotient n′ w′) where
+module _ {n w n′ w′ : ℤ} (a : Within 8000000 n) (u : Upto 4000 w) (b : Parts n′ w′) (e : quotient n w ≡ quotient n′ w′) where
   abbrev x : Float
   x = quotient n w
 
   -- the one float P/Q is near both
-  off : {n w : ℤ} → Slight n w → Near n w x → natAbs (over x *ℤ w -ℤ n *ℤ pos (under x)) * 2 ^ 53 ≤ 8000000 * under x
-  off s h = le-trans (h .near) (mul-le-mul-right (under x) (s .in-n .within))
+  off : {k : ℕ} {n w : ℤ} → Within k n → Near n w x → natAbs (over x *ℤ w -ℤ n *ℤ pos (under x)) * 2 ^ 53 ≤ k * under x
+  off s h = le-trans (h .near) (mul-le-mul-right (under x) (s .within))
 
   -- w′ (P w - n Q) - w (P w′ - n′ Q) = (w n′ - w′ n) Q
-  both : (P Q : ℤ) → (w *ℤ n′ -ℤ w′ *ℤ n) *ℤ Q ≡ w′ *ℤ (P *ℤ w -ℤ n *ℤ Q) -ℤ w *ℤ (P *ℤ w′ -ℤ n′ *ℤ Q)
-  both P Q = reify (n ∷ w ∷ n′ ∷ w′ ∷ P ∷ Q ∷ []) (λ ρ v. simp (reading, v 0, v 1, v 2, v 3, v 4, v 5) (solve _ _ _ tt))
+  together : (P Q : ℤ) → (w *ℤ n′ -ℤ w′ *ℤ n) *ℤ Q ≡ w′ *ℤ (P *ℤ w -ℤ n *ℤ Q) -ℤ w *ℤ (P *ℤ w′ -ℤ n′ *ℤ Q)
+  together P Q = reify (n ∷ w ∷ n′ ∷ w′ ∷ P ∷ Q ∷ []) (λ ρ v. simp (reading, v 0, v 1, v 2, v 3, v 4, v 5) (solve _ _ _ tt))
 
-  pub hidden : natAbs (w *ℤ n′ -ℤ w′ *ℤ n) * 2 ^ 53 ≤ 64000000000
+  pub hidden : natAbs (w *ℤ n′ -ℤ w′ *ℤ n) * 2 ^ 53 ≤ 512000000000000
   hidden =
       let P = over x in
       let Q = under x in
       let d = P *ℤ w -ℤ n *ℤ pos Q in
       let d′ = P *ℤ w′ -ℤ n′ *ℤ pos Q in
       let z = w *ℤ n′ -ℤ w′ *ℤ n in
-      let far = quotient-near (slight-parts a) in
-      let far′ = subst (Near n′ w′) (sym e) (quotient-near (slight-parts b)) in
-      let s = w-is (both P (pos Q)) (w-sub (w-mul (b .in-w .at-most) (w-self d)) (w-mul (a .in-w .at-most) (w-self d′))) in
+      let far = quotient-near (record { in-n = w-lit a tt; in-w = record { above = u .above; at-most = w-lit (u .at-most) tt } }) in
+      let far′ = subst (Near n′ w′) (sym e) (quotient-near b) in
+      let s = w-is (together P (pos Q)) (w-sub (w-mul (b .in-w .at-most) (w-self d)) (w-mul (u .at-most) (w-self d′))) in
       squeezed (natAbs z) (natAbs d) (natAbs d′) Q (far .above)
-      (le-trans (le-of-eq (sym (natAbs-mul z (pos Q)))) (s .within)) (off a far) (off b far′)
+      (le-trans (le-of-eq (sym (natAbs-mul z (pos Q)))) (s .within)) (off a far) (off (b .in-n) far′)
 
   pub one-quotient : w′ *ℤ n ≡ w *ℤ n′
-  one-quotient = sym (eq-of-sub (w *ℤ n′) (w′ *ℤ n) (none (w *ℤ n′ -ℤ w′ *ℤ n) (omega (arith, hidden))))
+  one-quotient = sym (eq-of-sub (w *ℤ n′) (w′ *ℤ n) (size-zero (w *ℤ n′ -ℤ w′ *ℤ n) (omega (arith, hidden))))

@@ -43,7 +43,7 @@ same-k p d r f {e} n h above a b =
     (reify (d .x ∷ d .y ∷ p .x ∷ p .y ∷ r .x ∷ r .y ∷ e .nx ∷ e .ny ∷ e .w ∷ [])
     (λ ρ v. simp (reading, val-pos ρ, val-negsuc ρ, v 0, v 1, v 2, v 3, v 4, v 5, v 6, v 7, v 8) (solve _ _ _ tt)))))
 
--- e is an end of o, which is no side
+-- e is a narrow point on the line of p and q of o, which differ
 pub record Lined (o : Object) (e : Point) : Type 0 where
   pub drawn : Proper (first o) (second o)
   pub on : OnLine (first o) (first o ⇀ second o) e

@@ -1,47 +1,29 @@
--- "Two frame points then give equal edges exactly when they are equal", and so do any two narrow points their places. To cite:
---   places-equal   any two answers that meet the contract of `place_of` for two narrow points are equal exactly when the points are
---   frame-narrow   frame points are narrow
+-- "Two frame points then give equal edges exactly when they are equal", and no point has the place of a narrow one but itself. To cite:
+--   places-equal   any two answers that meet the contract of `place_of`, the one for a narrow point, are equal exactly when what they are for is
 -- Assumes nothing.
-use mathlib.Core.Path.{_≡_, sym, _∙_, ap, subst}
+use mathlib.Core.Path.{_≡_, refl, sym, _∙_, ap, subst}
 use mathlib.Core.Logic.{_↔_}
-use mathlib.Core.Bool.{Bool, true, not, cond}
+use mathlib.Core.Bool.{Bool, true, false, not, cond}
+use lib.ListN.{length}
 use native.Mathlib.Omega.{arith}
 use lib.IntN.{ℤ, pos, negℤ, _*ℤ_, *ℤ-comm, *ℤ-zero}
 use Rattle.whole.specs.Laws.{mul-neg}
-use Rattle.whole.specs.Bound.{w-lit}
+use Rattle.whole.specs.Bound.{Within, w-lit}
 use Rattle.sheet.specs.declared.Point.{Point}
 use Rattle.sheet.specs.Figure.{Side, left, bottom, right, top, sideNumber, sideOf}
 use Rattle.sheet.specs.RefusalLaws.{side-of}
 use Rattle.sheet.specs.Ends.{nextSide}
 use Rattle.sheet.specs.Flags.{both, flags}
-use Rattle.sheet.specs.Points.{divisor, narrow, frame, isPoint, pointRefusal}
-use Rattle.sheet.specs.PointsLaws.{Standard, Narrow, Frame, APoint, a-standard, a-frame, standard-is, narrow-is, frame-is, point-is, square-within, in-proportion}
+use Rattle.sheet.specs.Points.{divisor, narrow, isPoint, pointRefusal}
+use Rattle.sheet.specs.PointsLaws.{Standard, Narrow, Frame, APoint, a-standard, a-frame, standard-is, narrow-is, point-is, point-sizes, in-proportion}
 use Rattle.screen.specs.declared.Place.{Place}
 use Rattle.screen.specs.Quotient.{quotient}
+use Rattle.screen.specs.QuotientLaws.{Parts}
 use Rattle.screen.specs.Told.{Told, answered}
-use Rattle.screen.specs.ToldLaws.{as-many-wholes}
+use Rattle.screen.specs.ToldLaws.{as-many, as-many-wholes}
 use Rattle.screen.specs.Places.{placeSays, isOn, goesTo, sideWhere, mAlong, nAlong, positionOf, edgeOf, placeOf}
-use Rattle.screen.specs.PlacesLaws.{place-one, side-where, frame-standard, place-standard, place-frame, along-by}
-use Rattle.screen.specs.Apart.{Slight, one-quotient}
-
--- ---- the numbers that are divided
-
-slight-x : {p : Point} → Narrow p → Slight (p .nx) (p .w)
-slight-x h = record { in-n = h .in-nx; in-w = h .in-w }
-
-slight-y : {p : Point} → Narrow p → Slight (p .ny) (p .w)
-slight-y h = record { in-n = h .in-ny; in-w = h .in-w }
-
-module _ {p : Point} (s : Side) (f : Frame p) where
-  slight-m : Slight (mAlong s p) (p .w)
-  slight-m =
-      let w = f .slim .in-w in
-      along-by (λ (z : ℤ). Slight z (p .w)) s
-      (record { in-n = w-lit (square-within (f .in-x) (w .at-most)) tt; in-w = w })
-      (record { in-n = w-lit (square-within (f .in-y) (w .at-most)) tt; in-w = w })
-
-  slight-n : Slight (nAlong s p) (p .w)
-  slight-n = along-by (λ (z : ℤ). Slight z (p .w)) s (slight-x (f .slim)) (slight-y (f .slim))
+use Rattle.screen.specs.PlacesLaws.{place-one, side-where, frame-standard, place-standard, place-frame, along-by, ratios}
+use Rattle.screen.specs.Apart.{one-quotient}
 
 -- ---- on one side
 
@@ -77,9 +59,6 @@ module _ {p q : Point} (a : APoint p) (b : APoint q) where
 is-on : (s : Side) (p : Point) → goesTo s p ≡ true → isOn s p ≡ true
 is-on s p e = both (isOn s p) (not (isOn (nextSide s) p)) .0 e .0
 
-side-by-number : (s t : Side) → sideNumber s ≡ sideNumber t → s ≡ t
-side-by-number s t e = sym (side-of s) ∙ ap sideOf e ∙ side-of t
-
 module _ {p q : Point} (f : Frame p) (g : Frame q) (dp : divisor p ≡ 1) (dq : divisor q ≡ 1) where
   -- q, by the side of p
   abbrev SameOn : Side → Type 0
@@ -96,51 +75,63 @@ module _ {p q : Point} (f : Frame p) (g : Frame q) (dp : divisor p ≡ 1) (dq : 
       let slopes : quotient (mAlong (sideWhere p) p) (p .w) ≡ quotient (mAlong (sideWhere q) q) (q .w) = cc in
       let offsets : quotient (nAlong (sideWhere p) p) (p .w) ≡ quotient (nAlong (sideWhere q) q) (q .w) = cc in
       let s = sideWhere p in
-      let h = subst SameOn (sym (side-by-number s (sideWhere q) number)) (side-where g, slopes, offsets) in
+      let z = point-sizes (a-frame f dp) in
+      let n = ratios (a-frame g dq) in
+      let h = subst SameOn (sym (side-of (sideWhere q)) ∙ sym (ap sideOf number) ∙ side-of s) (side-where g, slopes, offsets) in
       joined (a-frame f dp) (a-frame g dq) s (is-on s p (side-where f)) (is-on s q (h .0))
-      (one-quotient (slight-m s f) (slight-m s g) (h .1))
-      (one-quotient (slight-n s f) (slight-n s g) (h .2))
+      (one-quotient (along-by (Within 8000000) s (w-lit (z .in-mx) tt) (w-lit (z .in-my) tt)) (f .slim .in-w)
+      (along-by (λ (z : ℤ). Parts z (q .w)) s (n .in-mx) (n .in-my)) (h .1))
+      (one-quotient (along-by (Within 8000000) s (f .slim .in-nx) (f .slim .in-ny)) (f .slim .in-w)
+      (along-by (λ (z : ℤ). Parts z (q .w)) s (n .in-nx) (n .in-ny)) (h .2))
 
 -- ---- places that say the same
 
-by-position : {p q : Point} → Standard p → Standard q → divisor p ≡ 1 → divisor q ≡ 1 → Narrow p → Narrow q
+by-position : {p q : Point} → Standard p → Standard q → divisor p ≡ 1 → divisor q ≡ 1 → Narrow p
     → positionOf p ≡ positionOf q → p ≡ q
-by-position {p} {q} f g dp dq np nq e =
+by-position {p} {q} f g dp dq np e =
+    let n = ratios (a-standard g dq) in
     let floats = ap (λ (t : Told). t .floats) e in
     let xs : quotient (p .nx) (p .w) ≡ quotient (q .nx) (q .w) = cc in
     let ys : quotient (p .ny) (p .w) ≡ quotient (q .ny) (q .w) = cc in
     in-proportion (a-standard f dp) (a-standard g dq)
-    (zeros (p .w) (q .w) (f .no-mx) (g .no-mx)) (one-quotient (slight-x np) (slight-x nq) xs)
-    (zeros (p .w) (q .w) (f .no-my) (g .no-my)) (one-quotient (slight-y np) (slight-y nq) ys)
+    (zeros (p .w) (q .w) (f .no-mx) (g .no-mx)) (one-quotient (np .in-nx) (np .in-w) (n .in-nx) xs)
+    (zeros (p .w) (q .w) (f .no-my) (g .no-my)) (one-quotient (np .in-ny) (np .in-w) (n .in-ny) ys)
 
-by-place : {p q : Point} → APoint p → APoint q → Narrow p → Narrow q → placeOf p ≡ placeOf q → p ≡ q
-by-place {p} {q} (a-standard f dp) (a-standard g dq) np nq e =
-    by-position f g dp dq np nq (sym (place-standard p (standard-is p .1 f)) ∙ e ∙ place-standard q (standard-is q .1 g))
-by-place {p} {q} (a-standard f dp) (a-frame g dq) np nq e =
+by-place : {p q : Point} → APoint p → APoint q → Narrow p → placeOf p ≡ placeOf q → p ≡ q
+by-place {p} {q} (a-standard f dp) (a-standard g dq) np e =
+    by-position f g dp dq np (sym (place-standard p (standard-is p .1 f)) ∙ e ∙ place-standard q (standard-is q .1 g))
+by-place {p} {q} (a-standard f dp) (a-frame g dq) np e =
     let z = as-many-wholes (sym (place-standard p (standard-is p .1 f)) ∙ e ∙ place-frame q (frame-standard g)) in absurd (omega arith)
-by-place {p} {q} (a-frame f dp) (a-standard g dq) np nq e =
+by-place {p} {q} (a-frame f dp) (a-standard g dq) np e =
     let z = as-many-wholes (sym (place-frame p (frame-standard f)) ∙ e ∙ place-standard q (standard-is q .1 g)) in absurd (omega arith)
-by-place {p} {q} (a-frame f dp) (a-frame g dq) np nq e =
+by-place {p} {q} (a-frame f dp) (a-frame g dq) np e =
     by-edge f g dp dq (sym (place-frame p (frame-standard f)) ∙ e ∙ place-frame q (frame-standard g))
 
 -- ---- of what `place_of` answers
 
-said : (p : Point) (r : Place) → isPoint p ≡ true → placeSays r ≡ answered (pointRefusal p) (placeOf p) → placeSays r ≡ placeOf p
+placed : (p : Point) (r : Place) → isPoint p ≡ true → placeSays r ≡ answered (pointRefusal p) (placeOf p) → placeSays r ≡ placeOf p
 unfolding pointRefusal
-said p r h e = e ∙ ap (λ (t : Bool). answered (cond t (pos 0) (pos 5)) (placeOf p)) h
+placed p r h e = e ∙ ap (λ (t : Bool). answered (cond t (pos 0) (pos 5)) (placeOf p)) h
+
+two-floats : {p : Point} → APoint p → length (placeOf p .floats) ≡ 2
+two-floats {p} (a-standard f d) = as-many (place-standard p (standard-is p .1 f))
+two-floats {p} (a-frame f d) = as-many (place-frame p (frame-standard f))
 
 pub places-equal : (p q : Point) (r s : Place)
     → placeSays r ≡ answered (pointRefusal p) (placeOf p) → placeSays s ≡ answered (pointRefusal q) (placeOf q)
-    → (isPoint p ≡ true) × (narrow p ≡ true) → (isPoint q ≡ true) × (narrow q ≡ true) → (r ≡ s) ↔ (p ≡ q)
-places-equal p q r s er es hp hq = (to, from)
+    → (isPoint p ≡ true) × (narrow p ≡ true) → (r ≡ s) ↔ (p ≡ q)
+unfolding pointRefusal
+places-equal p q r s er es h = (λ e. to e (isPoint q) refl es, from)
   where
-    to : r ≡ s → p ≡ q
-    to e =
-        by-place (point-is p .0 (hp .0)) (point-is q .0 (hq .0)) (narrow-is p .0 (hp .1)) (narrow-is q .0 (hq .1))
-        (sym (said p r (hp .0) er) ∙ ap placeSays e ∙ said q s (hq .0) es)
+    a : APoint p
+    a = point-is p .0 (h .0)
+
+    to : r ≡ s → (t : Bool) → isPoint q ≡ t → placeSays s ≡ answered (cond t (pos 0) (pos 5)) (placeOf q) → p ≡ q
+    to e true t es = by-place a (point-is q .0 t) (narrow-is p .0 (h .1)) (sym (placed p r (h .0) er) ∙ ap placeSays e ∙ es)
+    to e false t es =
+        let z = two-floats a in
+        let y = as-many (sym (placed p r (h .0) er) ∙ ap placeSays e ∙ es) in
+        absurd (omega arith)
 
     from : p ≡ q → r ≡ s
     from e = place-one r s (er ∙ ap (λ (t : Point). answered (pointRefusal t) (placeOf t)) e ∙ sym es)
-
-pub frame-narrow : (p : Point) → frame p ≡ true → narrow p ≡ true
-frame-narrow p h = narrow-is p .1 (frame-is p .0 h .slim)

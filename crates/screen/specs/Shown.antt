@@ -42,7 +42,7 @@ abbrev pub EndIn : Point → Ends → Type 0
 EndIn p (ends.Both a b) = (p ≡ a) ⊎ (p ≡ b)
 EndIn p (ends.Refused n) = ⊥
 
--- "two parallel gauge lines": segments, rays or lines that run in one direction, with different k. "k = dx py - dy px" is taken with dx and dy
+-- "two parallel gauge lines": segments, rays or lines that run the same way or the opposite one, with different k. "k = dx py - dy px" is taken with dx and dy
 -- of the first for both, since those of the second may be longer, or turned round.
 pub record Parallel (o u : Object) : Type 0 where
   pub no-sides : (o .kind ≡ pos 4 → ⊥) × (u .kind ≡ pos 4 → ⊥)

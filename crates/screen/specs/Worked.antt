@@ -1,6 +1,7 @@
 -- Places, boxes and the bound of their floats, worked out by document 01's words. A definition that says something else is refused here,
 -- whatever the code does.
 use mathlib.Core.Path.{_≡_, refl, sym, _∙_, ap}
+use mathlib.Core.Logic.{inl, inr}
 use mathlib.Core.Bool.{Bool, true, false, true≢false}
 use mathlib.Core.List.{List, [], _∷_}
 use lib.Dec.{le→leb, lit≤, lit<}
@@ -12,6 +13,7 @@ use Rattle.whole.specs.Divisor.{steps, gcd, gcdOf}
 use Rattle.whole.specs.Tests.{eqZ-false}
 use Rattle.sheet.specs.declared.Object.{Object}
 use Rattle.sheet.specs.declared.Point.{Point}
+use Rattle.sheet.specs.declared.Ends.the-variants as ends
 use Rattle.sheet.specs.Figure.{Vec, Side, left, bottom, right, top, sideNumber, figure}
 use Rattle.sheet.specs.Points.{divided, standard, narrow, frame, isPoint}
 use Rattle.sheet.specs.PointsLaws.{frame-is}
@@ -23,7 +25,7 @@ use Rattle.screen.specs.declared.Boxed.the-variants as boxed
 use Rattle.screen.specs.Told.{Told}
 use Rattle.screen.specs.Quotient.{zero+, float, quotient, Near}
 use Rattle.screen.specs.Places.{placeSays, goesTo, sideWhere, mAlong, nAlong, placeOf}
-use Rattle.screen.specs.Shown.{Shown, a-position, an-edge, no-point, Parallel}
+use Rattle.screen.specs.Shown.{Shown, a-position, an-edge, no-point, EndIn, Parallel}
 use Rattle.screen.specs.Extents.{endsOf, farthest, extreme, extentOf, boxedSays}
 
 -- ---- places
@@ -75,12 +77,12 @@ worked-places = record {
 
 -- ---- two wide points with one place: 2000 - 1/w is the same float for w of 32,000,000 and of 31,999,999
 
-abbrev level : ℤ → ℤ → Point
-level x w = point (pos 0) x (pos 0) (pos 0) w
+abbrev onAxis : ℤ → ℤ → Point
+onAxis x w = point (pos 0) x (pos 0) (pos 0) w
 
 pub record WorkedWide : Type 0 where
-  are-points : (isPoint (level (pos 63999999999) (pos 32000000)) ≡ true) × (isPoint (level (pos 63999997999) (pos 31999999)) ≡ true)
-  one-place : placeOf (level (pos 63999999999) (pos 32000000)) ≡ placeOf (level (pos 63999997999) (pos 31999999))
+  are-points : (isPoint (onAxis (pos 63999999999) (pos 32000000)) ≡ true) × (isPoint (onAxis (pos 63999997999) (pos 31999999)) ≡ true)
+  one-place : placeOf (onAxis (pos 63999999999) (pos 32000000)) ≡ placeOf (onAxis (pos 63999997999) (pos 31999999))
 
 pub worked-wide : WorkedWide
 unfolding sgn steps gcd gcdOf standard narrow frame isPoint placeOf float quotient ofInt div round units odd trailingZeros size climb span
@@ -109,12 +111,15 @@ pub record WorkedParallel : Type 0 where
       (placeOf (lastEnd upper) ≡ edge (pos 3) (pos 1) (pos 2) (pos 2)) × (placeOf (lastEnd lower) ≡ edge (pos 3) (pos 1) (pos 0) (pos 2))
       × (placeOf (firstEnd upper) ≡ edge (pos 1) (minus 1) (pos 2) (pos 2)) × (placeOf (firstEnd lower) ≡ edge (pos 1) (minus 1) (pos 0) (pos 2))
   are-parallel : Parallel upper lower
-  -- with q farther off and the arrow the other way, a ray for a line
-  turned-round : Parallel lower (ray (pos 4) (pos 3) (minus 4) (minus 1))
+  -- with q farther off and the arrow the other way, a segment and a ray for the lines
+  turned-round : Parallel (segment (pos 0) (pos 0) (pos 2) (pos 1)) (ray (pos 4) (pos 3) (minus 4) (minus 1))
   -- two names of one line; two that are not parallel; a side
   one-line : Parallel upper (line (pos 4) (pos 3) (minus 4) (minus 1)) → ⊥
   not-parallel : Parallel lower (line (pos 0) (pos 1) (pos 2) (pos 3)) → ⊥
-  no-side : Parallel (line (pos 0) (pos 0) (pos 0) (minus 1)) (side (pos 1)) → ⊥
+  no-side : (Parallel (line (pos 0) (pos 1) (pos 1) (pos 1)) (side (pos 1)) → ⊥) × (Parallel (side (pos 1)) (line (pos 0) (pos 1) (pos 1) (pos 1)) → ⊥)
+  -- both ends of an answer are ends, and a refusal has none
+  ends-in : EndIn (lastEnd upper) (ends.Both (lastEnd upper) (lastEnd lower)) × EndIn (lastEnd lower) (ends.Both (lastEnd upper) (lastEnd lower))
+  refused-in : EndIn (lastEnd upper) (ends.Refused (pos 3)) → ⊥
 
 pub worked-parallel : WorkedParallel
 unfolding sgn steps gcd gcdOf figure divided farRaw farEnd firstEnd lastEnd standard sideWhere placeOf
@@ -126,13 +131,15 @@ worked-parallel = record {
     other-k = eqZ-false {a = pos 2} {b = pos 0} refl;
   };
   turned-round = record {
-    no-sides = (eqZ-false {a = pos 3} {b = pos 4} refl, eqZ-false {a = pos 2} {b = pos 4} refl);
+    no-sides = (eqZ-false {a = pos 1} {b = pos 4} refl, eqZ-false {a = pos 2} {b = pos 4} refl);
     one-direction = refl;
     other-k = eqZ-false {a = pos 0} {b = pos 2} refl;
   };
   one-line = λ h. h .other-k refl;
   not-parallel = λ h. eqZ-false {a = pos 2} {b = pos 0} refl (h .one-direction);
-  no-side = λ h. h .no-sides .1 refl;
+  no-side = (λ h. h .no-sides .1 refl, λ h. h .no-sides .0 refl);
+  ends-in = (inl refl, inr refl);
+  refused-in = λ i. i;
 }
 
 -- ---- boxes

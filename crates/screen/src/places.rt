@@ -43,7 +43,7 @@ fn side_number(mx: i64, nx: i64, my: i64, ny: i64, w: i64) -> i64
 }
 
 // Of x and y the one that runs along a side, over w.
-fn along(side: i64, x: i64, y: i64, w: i64) -> f64
+fn value_along(side: i64, x: i64, y: i64, w: i64) -> f64
     requires { ⌜ Parts x w × Parts y w ⌝ }
     ensures { λ r. ⌜ r ≡ quotient (alongNumber side x y) w ⌝ }
 {
@@ -59,8 +59,8 @@ fn edge_place(mx: i64, nx: i64, my: i64, ny: i64, w: i64) -> Place
     ensures { λ r. ⌜ placeSays r ≡ edgeOf (record { mx = mx; nx = nx; my = my; ny = ny; w = w }) ⌝ }
 {
     let side = side_number(mx, nx, my, ny, w);
-    let slope = along(side, mx, my, w);
-    let offset = along(side, nx, ny, w);
+    let slope = value_along(side, mx, my, w);
+    let offset = value_along(side, nx, ny, w);
     Place::Edge(side, slope, offset)
 }
 

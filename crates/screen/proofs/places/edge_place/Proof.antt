@@ -26,13 +26,13 @@ number c =
 side-number-requires : tie.Need-side-number-requires
 side-number-requires c κs = search needs
 
-along-requires : tie.Need-along-requires
-along-requires c κs = search needs
+value-along-requires : tie.Need-value-along-requires
+value-along-requires c κs = search needs
 
-along-requires-2 : tie.Need-along-requires-2
-along-requires-2 c κs = search needs
+value-along-requires-2 : tie.Need-value-along-requires-2
+value-along-requires-2 c κs = search needs
 
--- what `along` gives for two numbers of the point, one of x and one of y
+-- what `value_along` gives for two numbers of the point, one of x and one of y
 value : (c : tie.After-side-number) {r : Float} (x y : ℤ) → out x ≡ x → out y ≡ y
     → r ≡ quotient (alongNumber (out (c .side-number .result)) (out x) (out y)) (out (c .before .args .w))
     → r ≡ quotient (along (sideWhere (point (c .before))) x y) (c .before .args .w)
@@ -47,9 +47,9 @@ returns : tie.Need-returns
 returns c =
     let b = c .before .before in
     let s = b .before in
-    let slope = value b (s .args .mx) (s .args .my) (out-is (s .fits .mx)) (out-is (s .fits .my)) (c .before .along .ensures) in
-    let offset = value b (s .args .nx) (s .args .ny) (out-is (s .fits .nx)) (out-is (s .fits .ny)) (c .along2 .ensures) in
+    let slope = value b (s .args .mx) (s .args .my) (out-is (s .fits .mx)) (out-is (s .fits .my)) (c .before .value-along .ensures) in
+    let offset = value b (s .args .nx) (s .args .ny) (out-is (s .fits .nx)) (out-is (s .fits .ny)) (c .value-along2 .ensures) in
     λ i. record { wholes = pos 0 ∷ number b i ∷ []; floats = slope i ∷ offset i ∷ [] }
 
 pub edge-place-spec : {M : Type 1} → statement M
-edge-place-spec = tie.close (tie.spec side-number-requires along-requires along-requires-2 returns)
+edge-place-spec = tie.close (tie.spec side-number-requires value-along-requires value-along-requires-2 returns)

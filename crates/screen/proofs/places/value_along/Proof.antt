@@ -7,8 +7,8 @@ use Rattle.whole.specs.Tests.{out-is, lit-flag}
 use Rattle.screen.specs.Quotient.{quotient}
 use Rattle.screen.specs.PlacesLaws.{alongNumber}
 use borrow.Author.Needs.{needs}
-use Rattle.screen.proofs.places.along.Statement.{statement}
-use Rattle.screen.proofs.places.along.Tie as tie
+use Rattle.screen.proofs.places.value_along.Statement.{statement}
+use Rattle.screen.proofs.places.value_along.Tie as tie
 
 ratio-requires : tie.Need-ratio-requires
 ratio-requires c κs = search needs
@@ -33,5 +33,5 @@ returns-2 c =
     let s = c .before .before in
     c .ratio2 .ensures .0 ∙ ap₂ quotient (out-is (s .fits .x) ∙ chosen s (c .before .if1 .left)) (out-is (s .fits .w))
 
-pub along-spec : {M : Type 1} → statement M
-along-spec = tie.close (tie.spec ratio-requires returns ratio-requires-2 returns-2)
+pub value-along-spec : {M : Type 1} → statement M
+value-along-spec = tie.close (tie.spec ratio-requires returns ratio-requires-2 returns-2)
