@@ -42,8 +42,8 @@ abbrev pub EndIn : Point → Ends → Type 0
 EndIn p (ends.Both a b) = (p ≡ a) ⊎ (p ≡ b)
 EndIn p (ends.Refused n) = ⊥
 
--- "two parallel gauge lines": segments, rays or lines that run the same way or the opposite one, with different k. "k = dx py - dy px" is taken with dx and dy
--- of the first for both, since those of the second may be longer, or turned round.
+-- "two parallel gauge lines": segments, rays or lines that run the same way or the opposite one, with different k. "k = dx py - dy px" is taken
+-- with dx and dy of the first for both, since those of the second may be longer, or turned round.
 pub record Parallel (o u : Object) : Type 0 where
   pub no-sides : (o .kind ≡ pos 4 → ⊥) × (u .kind ≡ pos 4 → ⊥)
   pub one-direction : cross (first o ⇀ second o) (first u ⇀ second u) ≡ pos 0
