@@ -1,5 +1,6 @@
--- Two parallel objects that are not on one line have no end in common. To cite:
---   Lined, end-lined   an end that an answer of `ends_of` gives is a narrow point on the line of the object's p and q
+-- The ends that an answer of `ends_of` gives. Two parallel objects that are not on one line have none in common. To cite:
+--   end-narrow         such an end is a narrow point
+--   Lined, end-lined   and lies on the line of the object's p and q, where that is no side
 --   lined-apart        two parallel objects with different k have no such end in common
 -- Assumes nothing.
 use mathlib.Core.Path.{_≡_, refl, sym, subst}
@@ -43,11 +44,29 @@ same-k p d r f {e} n h above a b =
     (reify (d .x ∷ d .y ∷ p .x ∷ p .y ∷ r .x ∷ r .y ∷ e .nx ∷ e .ny ∷ e .w ∷ [])
     (λ ρ v. simp (reading, val-pos ρ, val-negsuc ρ, v 0, v 1, v 2, v 3, v 4, v 5, v 6, v 7, v 8) (solve _ _ _ tt)))))
 
--- e is a narrow point on the line of p and q of o, which differ
+-- ---- an end that an answer gives
+
+-- what both ends of o are, where it is accepted, is every end that an answer gives for o
+end-by : (F : Point → Type 0) {o : Object} → (Accepted o → F (firstEnd o) × F (lastEnd o)) → (r : Ends)
+    → endsSay r ≡ answer (objectRefusal o) (numbers (firstEnd o) ++ numbers (lastEnd o)) → (e : Point) → EndIn e r → F e
+end-by F {o} both =
+    by-answer ends-one (λ (r : Ends). (e : Point) → EndIn e r → F e)
+    (ends.Both (firstEnd o) (lastEnd o)) (ends.Refused (objectRefusal o)) refl refl
+    (λ z. given (both (record { accepted = z })))
+    (λ z e i. absurd i)
+  where
+    given : F (firstEnd o) × F (lastEnd o) → (e : Point) → EndIn e (ends.Both (firstEnd o) (lastEnd o)) → F e
+    given h e (inl i) = subst F (sym i) (h .0)
+    given h e (inr i) = subst F (sym i) (h .1)
+
+pub end-narrow : (o : Object) (r : Ends) → endsSay r ≡ answer (objectRefusal o) (numbers (firstEnd o) ++ numbers (lastEnd o))
+    → (e : Point) → EndIn e r → (isPoint e ≡ true) × (narrow e ≡ true)
+end-narrow o = end-by (λ (e : Point). (isPoint e ≡ true) × (narrow e ≡ true)) (λ a. (first-end-is-point a, last-end-is-point a))
+
+-- e is on the line of p and q of o, which differ
 pub record Lined (o : Object) (e : Point) : Type 0 where
   pub drawn : Proper (first o) (second o)
   pub on : OnLine (first o) (first o ⇀ second o) e
-  pub narrow-point : (isPoint e ≡ true) × (narrow e ≡ true)
 
 module _ {o : Object} (a : Accepted o) (n : o .kind ≡ pos 4 → ⊥) where
   abbrev p : Vec
@@ -63,8 +82,8 @@ module _ {o : Object} (a : Accepted o) (n : o .kind ≡ pos 4 → ⊥) where
       ends-on : {f : Figure} → figure o ≡ f → Proper p (second o) → OnLine p d (firstOf f) → OnLine p d (lastOf f)
           → Lined o (firstEnd o) × Lined o (lastEnd o)
       ends-on e h x y = (
-        record { drawn = h; on = subst (λ (f : Figure). OnLine p d (firstOf f)) (sym e) x; narrow-point = first-end-is-point a },
-        record { drawn = h; on = subst (λ (f : Figure). OnLine p d (lastOf f)) (sym e) y; narrow-point = last-end-is-point a },
+        record { drawn = h; on = subst (λ (f : Figure). OnLine p d (firstOf f)) (sym e) x },
+        record { drawn = h; on = subst (λ (f : Figure). OnLine p d (lastOf f)) (sym e) y },
       )
 
       go : Taken o → Lined o (firstEnd o) × Lined o (lastEnd o)
@@ -74,22 +93,15 @@ module _ {o : Object} (a : Accepted o) (n : o .kind ≡ pos 4 → ⊥) where
           ends-on e h (on-line-back (far-on-line p (reverse d) (reverse-way p d (proper-way h)))) (far-on-line p d (proper-way h))
       go (a-side k s e) = absurd (n k)
 
--- an end that an answer gives for o
 pub end-lined : (o : Object) → (o .kind ≡ pos 4 → ⊥) → (r : Ends)
     → endsSay r ≡ answer (objectRefusal o) (numbers (firstEnd o) ++ numbers (lastEnd o)) → (e : Point) → EndIn e r → Lined o e
-end-lined o n =
-    by-answer ends-one (λ (r : Ends). (e : Point) → EndIn e r → Lined o e)
-    (ends.Both (firstEnd o) (lastEnd o)) (ends.Refused (objectRefusal o)) refl refl
-    (λ z. given (record { accepted = z }))
-    (λ z e i. absurd i)
-  where
-    given : Accepted o → (e : Point) → EndIn e (ends.Both (firstEnd o) (lastEnd o)) → Lined o e
-    given a e (inl i) = subst (Lined o) (sym i) (both-lined a n .0)
-    given a e (inr i) = subst (Lined o) (sym i) (both-lined a n .1)
+end-lined o n = end-by (Lined o) (λ a. both-lined a n)
 
-pub lined-apart : {o u : Object} {p q : Point} → Parallel o u → Lined o p → Lined u q → p ≡ q → ⊥
-lined-apart {o} {u} {p} h a b e =
+-- ---- parallel objects
+
+pub lined-apart : {o u : Object} {p q : Point} → Parallel o u → isPoint p ≡ true → Lined o p → Lined u q → p ≡ q → ⊥
+lined-apart {o} {u} {p} h t a b e =
     h .other-k
     (same-k (first o) (first o ⇀ second o) (first u) (first u ⇀ second u) (proper-way (b .drawn) .moves) (h .one-direction)
-    (point-sizes (point-is p .0 (a .narrow-point .0)) .in-w .above) (a .on)
+    (point-sizes (point-is p .0 t) .in-w .above) (a .on)
     (subst (OnLine (first u) (first u ⇀ second u)) (sym e) (b .on)))
