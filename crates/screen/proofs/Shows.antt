@@ -46,8 +46,8 @@ module _ (κs : Lfts 0) (p q : Point) (r s : Place) (h : place-of.Post κs (p, t
     -- and q is one that was given for u
     pub parallel-edges : (u : Object) (b : Ends) → ends-of.Post κs (u, tt) b (u, tt) → EndIn q b → Parallel o u → (p ≡ q → ⊥) × (r ≡ s → ⊥)
     parallel-edges u b eb j h =
-        let x = end-lined o (h .no-sides .0) a ea p i in
-        let y = end-lined u (h .no-sides .1) b eb q j in
+        let x = end-lined o a ea p i (h .no-sides .0) in
+        let y = end-lined u b eb q j (h .no-sides .1) in
         let apart = lined-apart h (end-narrow o a ea p i .0) x y in
         (apart, λ e. apart (equal-ends .0 e))
 

@@ -44,24 +44,7 @@ same-k p d r f {e} n h above a b =
     (reify (d .x ∷ d .y ∷ p .x ∷ p .y ∷ r .x ∷ r .y ∷ e .nx ∷ e .ny ∷ e .w ∷ [])
     (λ ρ v. simp (reading, val-pos ρ, val-negsuc ρ, v 0, v 1, v 2, v 3, v 4, v 5, v 6, v 7, v 8) (solve _ _ _ tt)))))
 
--- ---- an end that an answer gives
-
--- what both ends of o are, where it is accepted, is every end that an answer gives for o
-end-by : (F : Point → Type 0) {o : Object} → (Accepted o → F (firstEnd o) × F (lastEnd o)) → (r : Ends)
-    → endsSay r ≡ answer (objectRefusal o) (numbers (firstEnd o) ++ numbers (lastEnd o)) → (e : Point) → EndIn e r → F e
-end-by F {o} both =
-    by-answer ends-one (λ (r : Ends). (e : Point) → EndIn e r → F e)
-    (ends.Both (firstEnd o) (lastEnd o)) (ends.Refused (objectRefusal o)) refl refl
-    (λ z. given (both (record { accepted = z })))
-    (λ z e i. absurd i)
-  where
-    given : F (firstEnd o) × F (lastEnd o) → (e : Point) → EndIn e (ends.Both (firstEnd o) (lastEnd o)) → F e
-    given h e (inl i) = subst F (sym i) (h .0)
-    given h e (inr i) = subst F (sym i) (h .1)
-
-pub end-narrow : (o : Object) (r : Ends) → endsSay r ≡ answer (objectRefusal o) (numbers (firstEnd o) ++ numbers (lastEnd o))
-    → (e : Point) → EndIn e r → (isPoint e ≡ true) × (narrow e ≡ true)
-end-narrow o = end-by (λ (e : Point). (isPoint e ≡ true) × (narrow e ≡ true)) (λ a. (first-end-is-point a, last-end-is-point a))
+-- ---- the ends of an object that is no side
 
 -- e is on the line of p and q of o, which differ
 pub record Lined (o : Object) (e : Point) : Type 0 where
@@ -93,9 +76,27 @@ module _ {o : Object} (a : Accepted o) (n : o .kind ≡ pos 4 → ⊥) where
           ends-on e h (on-line-back (far-on-line p (reverse d) (reverse-way p d (proper-way h)))) (far-on-line p d (proper-way h))
       go (a-side k s e) = absurd (n k)
 
-pub end-lined : (o : Object) → (o .kind ≡ pos 4 → ⊥) → (r : Ends)
-    → endsSay r ≡ answer (objectRefusal o) (numbers (firstEnd o) ++ numbers (lastEnd o)) → (e : Point) → EndIn e r → Lined o e
-end-lined o n = end-by (Lined o) (λ a. both-lined a n)
+-- ---- an end that an answer gives for o
+
+module _ (o : Object) (r : Ends) (said : endsSay r ≡ answer (objectRefusal o) (numbers (firstEnd o) ++ numbers (lastEnd o)))
+    (e : Point) (i : EndIn e r) where
+  -- what holds of both ends of o, where o is accepted, holds of it
+  end-by : (F : Point → Type 0) → (Accepted o → F (firstEnd o) × F (lastEnd o)) → F e
+  end-by F both =
+      by-answer ends-one (λ (r : Ends). EndIn e r → F e) (ends.Both (firstEnd o) (lastEnd o)) (ends.Refused (objectRefusal o)) refl refl
+      (λ z. given (both (record { accepted = z })))
+      (λ z i. absurd i)
+      r said i
+    where
+      given : F (firstEnd o) × F (lastEnd o) → EndIn e (ends.Both (firstEnd o) (lastEnd o)) → F e
+      given h (inl i) = subst F (sym i) (h .0)
+      given h (inr i) = subst F (sym i) (h .1)
+
+  pub end-narrow : (isPoint e ≡ true) × (narrow e ≡ true)
+  end-narrow = end-by (λ (e : Point). (isPoint e ≡ true) × (narrow e ≡ true)) (λ a. (first-end-is-point a, last-end-is-point a))
+
+  pub end-lined : (o .kind ≡ pos 4 → ⊥) → Lined o e
+  end-lined n = end-by (Lined o) (λ a. both-lined a n)
 
 -- ---- parallel objects
 
