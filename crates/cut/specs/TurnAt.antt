@@ -3,15 +3,14 @@
 --   turn-at                 turn of three narrow points, for every R above 1,536,000,000,000,000,000
 use mathlib.Core.Path.{_≡_, sym, _∙_, ap}
 use mathlib.Core.List.{[], _∷_}
-use lib.IntN.{ℤ, pos, _+ℤ_, _*ℤ_}
+use lib.IntN.{ℤ, pos, _*ℤ_}
 use lib.Signed.{_<ℤ_}
-use Rattle.whole.specs.Ring.{var, con, _⊕_, _⊗_, ring}
 use Rattle.whole.specs.Reify.{reify, reading, solve}
 use Rattle.whole.specs.Order.{pp-mul}
 use Rattle.whole.specs.Sign.{sgn}
 use Rattle.whole.specs.SignLaws.{sgn-mul-pos}
 use Rattle.whole.specs.Poly.{Poly, value, _⊞_, _⊟_, _⊠_}
-use Rattle.whole.specs.PolyLaws.{value-sum, value-opposite, value-product}
+use Rattle.whole.specs.PolyLaws.{value-one, value-two, value-sum, value-opposite, value-product}
 use Rattle.whole.specs.Lead.{Below, lead}
 use Rattle.whole.specs.PolyBound.{Sizes, empty, _also_, s-sum, s-difference, s-product, sizes-below}
 use Rattle.sheet.specs.declared.Point.{Point}
@@ -38,12 +37,6 @@ module _ (P Q S : Spot) where
       (pp-mul (P .above) (pp-mul (pp-mul (Q .above) (P .above)) (pp-mul (S .above) (P .above))))
 
 -- ---- the value of the turn's polynomial
-
-value-two : (R m n : ℤ) → value (n ∷ m ∷ []) R ≡ m *ℤ R +ℤ n
-value-two R m n = ring (R ∷ m ∷ n ∷ []) ((con (pos 0) ⊗ var 0 ⊕ var 1) ⊗ var 0 ⊕ var 2) (var 1 ⊗ var 0 ⊕ var 2) tt
-
-value-one : (R w : ℤ) → value (w ∷ []) R ≡ w
-value-one R w = ring (R ∷ w ∷ []) (con (pos 0) ⊗ var 0 ⊕ var 1) (var 1) tt
 
 turn-value : (w1 x1 y1 w2 x2 y2 w3 x3 y3 : Poly) (R : ℤ)
     → value (w1 ⊠ (x2 ⊠ y3 ⊟ x3 ⊠ y2) ⊟ w2 ⊠ (x1 ⊠ y3 ⊟ x3 ⊠ y1) ⊞ w3 ⊠ (x1 ⊠ y2 ⊟ x2 ⊠ y1)) R

@@ -1,4 +1,5 @@
 -- What holds of numbers that are not refused. To cite:
+--   passed                                   a test that refuses by n elsewhere, and does not refuse, holds
 --   point-taken                              a refusal of 0 says that it is a point
 --   order-taken, turn-taken, side-taken, cross-taken   the same of two points, of three narrow points, of an object with a point, of two objects
 --   taken-cross                              two objects that are accepted are not refused
@@ -18,7 +19,7 @@ use Rattle.sheet.specs.Crossing.{crossingRefusal}
 use Rattle.sheet.specs.AnswersLaws.{or-zero}
 
 -- 0 where a test holds, and n elsewhere
-passed : (t : Bool) {n : ℕ} → (n ≡ 0 → ⊥) → cond t (pos 0) (pos n) ≡ pos 0 → t ≡ true
+pub passed : (t : Bool) {n : ℕ} → (n ≡ 0 → ⊥) → cond t (pos 0) (pos n) ≡ pos 0 → t ≡ true
 passed true d e = refl
 passed false d e = absurd (d (ap natAbs e))
 

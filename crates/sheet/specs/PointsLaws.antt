@@ -2,10 +2,11 @@
 --   Times, divided-back      each number of p is the divisor times that of `divided p`
 --   divides-w, divisor-above, divided-above, divided-one      the divisor is above 0; w stays above 0; the divisor is then 1
 --   Upto, Standard, Narrow, OnEdge, InSquare, Frame, APoint    the facts, in ℤ; reduced: the divisor of a point is 1
+--   all-four                 four flags together
 --   narrow-is, standard-is, edge-is, in-square-is, frame-is, point-is
 --                            each definition is true exactly where they hold: `.0` reads, `.1` introduces
 --   narrow-divided, frame-divided, standard-divided      the facts survive the division
---   square-within, Sizes, point-sizes                    bounds for all five numbers
+--   square-within, Sizes, frame-sizes, point-sizes       bounds for all five numbers
 --   in-proportion            two points whose numbers are in proportion are equal
 -- Assumes nothing.
 use mathlib.Core.Path.{_≡_, sym, _∙_, ap, subst}
@@ -186,7 +187,7 @@ in-square-is m n w = (λ h. to (simp flags at h), from)
     from (on h k) = simp flags (inr (simp flags (h, inl (simp flags k))))
     from (beside h k) = simp flags (inr (simp flags (h, inr (simp flags k))))
 
-all-four : (a b c d : Bool) → ((a && b && c && d) ≡ true) ↔ ((a ≡ true) × (b ≡ true) × (c ≡ true) × (d ≡ true))
+pub all-four : (a b c d : Bool) → ((a && b && c && d) ≡ true) ↔ ((a ≡ true) × (b ≡ true) × (c ≡ true) × (d ≡ true))
 all-four a b c d = (λ h. let f = simp both at h in (f .0 .0 .0, f .0 .0 .1, f .0 .1, f .1), λ f. simp both (((f .0, f .1), f .2), f .3))
 
 sum-of : {A B A′ B′ : Type 0} → (A → A′) → (B → B′) → A ⊎ B → A′ ⊎ B′
@@ -308,6 +309,15 @@ square-within {k} {m} s h = record { within = leb→le (natAbs m) k (go s h .le)
     go (on e z) h = ≤-trans (≤-of e) (w-upper h)
     go (beside e z) h = ≤-trans (≤-of e) (w-upper h)
 
+pub frame-sizes : {p : Point} → Frame p → Sizes p
+frame-sizes f = record {
+  in-mx = square-within (f .in-x) (f .slim .in-w .at-most);
+  in-nx = w-lit (f .slim .in-nx) tt;
+  in-my = square-within (f .in-y) (f .slim .in-w .at-most);
+  in-ny = w-lit (f .slim .in-ny) tt;
+  in-w = record { above = f .slim .in-w .above; at-most = w-lit (f .slim .in-w .at-most) tt };
+}
+
 pub point-sizes : {p : Point} → APoint p → Sizes p
 point-sizes (a-standard s e) = record {
   in-mx = w-is (s .no-mx) (w-lit (w-pos 0) tt);
@@ -316,13 +326,7 @@ point-sizes (a-standard s e) = record {
   in-ny = s .in-ny;
   in-w = s .in-w;
 }
-point-sizes (a-frame f e) = record {
-  in-mx = square-within (f .in-x) (f .slim .in-w .at-most);
-  in-nx = w-lit (f .slim .in-nx) tt;
-  in-my = square-within (f .in-y) (f .slim .in-w .at-most);
-  in-ny = w-lit (f .slim .in-ny) tt;
-  in-w = record { above = f .slim .in-w .above; at-most = w-lit (f .slim .in-w .at-most) tt };
-}
+point-sizes (a-frame f e) = frame-sizes f
 
 -- ---- in proportion, and the divisors 1
 

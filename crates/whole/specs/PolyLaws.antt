@@ -1,4 +1,5 @@
 -- The value at R of sums and products of polynomials, and the first of two signs. To cite:
+--   value-one, value-two                                   of one coefficient, of two
 --   value-sum, value-times, value-opposite, value-difference, value-product
 --   first-neg, first-ne, first-sgn, first-zero, first-zero-right, first-assoc   the first of two signs that is not 0
 --   leading-opposite                                       the leading sign of an opposite
@@ -12,6 +13,12 @@ use Rattle.whole.specs.Ring.{var, lit, _⊕_, _⊗_, ⊝_, ring}
 use Rattle.whole.specs.Sign.{sgn}
 use Rattle.whole.specs.SignLaws.{sgn-neg-eq, sgn-sgn, Signs, signs, minus, nought, plus}
 use Rattle.whole.specs.Poly.{Poly, value, _⊞_, times, opposite, _⊟_, _⊠_, first, leading}
+
+pub value-one : (R c : ℤ) → value (c ∷ []) R ≡ c
+value-one R c = ring (R ∷ c ∷ []) (lit 0 ⊗ var 0 ⊕ var 1) (var 1) tt
+
+pub value-two : (R b c : ℤ) → value (c ∷ b ∷ []) R ≡ b *ℤ R +ℤ c
+value-two R b c = ap (λ (x : ℤ). x *ℤ R +ℤ c) (value-one R b)
 
 pub value-sum : (p q : Poly) (R : ℤ) → value (p ⊞ q) R ≡ value p R +ℤ value q R
 value-sum [] q R = sym (+ℤ-idl (value q R))
