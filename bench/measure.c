@@ -1,26 +1,17 @@
 /* Times the proved code beside plain C of the same algorithms, in one process and one run. Prints nanoseconds and the ratio. */
 #include "plain.h"
-#include <stdio.h>
-#include <stdlib.h>
+#include "race.h"
 #include <string.h>
-#include <time.h>
 
 /* each answers its refusal, 0 for none */
 int64_t silvanelga_measure_list(const int64_t *list, size_t length, int64_t *rows, size_t room);
 int64_t silvanelga_measure_read(const uint8_t *bytes, size_t length, int64_t *list, size_t room);
 int64_t silvanelga_measure_write(const int64_t *list, size_t length, uint8_t *bytes, size_t room);
 
-enum { NUMBERS = WIDTH * MOST, PAIRS = MOST * (MOST - 1) / 2, BYTES = 2 + 9 * MOST, TURNS = 25, CGAL_TURNS = 7 };
+enum { NUMBERS = WIDTH * MOST, PAIRS = MOST * (MOST - 1) / 2, BYTES = 2 + 9 * MOST, CGAL_TURNS = 7 };
 
 static int64_t list[NUMBERS], back[NUMBERS], rows[ROW * PAIRS], other[ROW * PAIRS];
 static uint8_t bytes[BYTES], again[BYTES];
-
-static uint64_t state = 88172645463325252u;
-static int64_t pick(int64_t low, int64_t high)
-{
-    state ^= state << 13, state ^= state >> 7, state ^= state << 17;
-    return low + (int64_t)(state % (uint64_t)(high - low + 1));
-}
 
 static void pair(int64_t *o, int64_t kind, int64_t reach)
 {
@@ -46,23 +37,6 @@ static void chains(int64_t *o, int i)
     do x = o[1] + pick(-9, 9), y = o[2] + pick(-9, 9); while (x == o[1] && y == o[2]);
     o[3] = x, o[4] = y;
 }
-
-static double now(void)
-{
-    struct timespec t;
-    clock_gettime(CLOCK_MONOTONIC, &t);
-    return 1e9 * (double)t.tv_sec + (double)t.tv_nsec;
-}
-
-static void fail(const char *what) { fprintf(stderr, "measure: %s\n", what); exit(1); }
-
-/* the least time of some turns, the two taken in turn */
-#define RACE(one, two, first, second)                                     \
-    for (int t = 0; t < TURNS; t++) {                                     \
-        double a = now(); one; double b = now(); two; double c = now();   \
-        if (t == 0 || b - a < first) first = b - a;                       \
-        if (t == 0 || c - b < second) second = c - b;                     \
-    }
 
 #ifdef WITH_CGAL
 int64_t cgal_list(const int64_t *list, size_t length);

@@ -1,30 +1,10 @@
 /* Plain C of the same algorithms; see plain.h. */
-#include "plain.h"
+#include "plain_numbers.h"
 #include <stdbool.h>
 
-typedef struct { int64_t mx, nx, my, ny, w; } point;
 typedef struct { int64_t kind, px, py, qx, qy; } object;
 typedef enum { NOTHING, ONCE, MANY } what;
 typedef struct { what what; point e; } meeting;
-
-static int64_t sign(int64_t x) { return (x > 0) - (x < 0); }
-static uint64_t size(int64_t x) { return x < 0 ? 0 - (uint64_t)x : (uint64_t)x; }
-
-static uint64_t gcd(uint64_t x, uint64_t y)
-{
-    while (y != 0) {
-        uint64_t rest = x % y;
-        x = y;
-        y = rest;
-    }
-    return x;
-}
-
-static point divide(int64_t mx, int64_t nx, int64_t my, int64_t ny, int64_t w)
-{
-    int64_t g = (int64_t)gcd(size(mx), gcd(size(nx), gcd(size(my), gcd(size(ny), size(w)))));
-    return (point){mx / g, nx / g, my / g, ny / g, w / g};
-}
 
 static bool beyond(int64_t z) { return z < -REACH || REACH < z; }
 

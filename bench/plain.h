@@ -13,4 +13,10 @@ int64_t plain_list(const int64_t *list, size_t length, int64_t *rows, size_t roo
 int64_t plain_read(const uint8_t *bytes, size_t length, int64_t *list, size_t room);
 int64_t plain_write(const int64_t *list, size_t length, uint8_t *bytes, size_t room);
 
+typedef struct { int64_t mx, nx, my, ny, w; } point;
+typedef struct { int64_t refusal, number; point at; } answer;
+
+/* the side of the circle through p, q and s that u is on; in plain_circle.c */
+answer plain_circle(point p, point q, point s, point u);
+
 #endif

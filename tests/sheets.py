@@ -1,6 +1,9 @@
-"""Random sheets, each kind of them made to meet another corner of the rules; and bytes damaged on their way."""
-import random
+"""Random sheets, each kind of them made to meet another corner of the rules; bytes damaged on their way; and points, with such as are none."""
+import math
 import reference
+from reference import WIDEST, FAR, NARROW, NEAR
+
+I64 = 2**63
 
 
 def pair(rng, reach):
@@ -125,3 +128,41 @@ def stored(rng):
         return bytes(rng.choice((0, 1, 2, 3, 4, 5, 127, 128, 129, 160, 255)) for _ in range(rng.randint(0, 24)))
     data = reference.write(sheet(rng))
     return data if which < 5 else damaged(rng, data)
+
+
+# ---- points
+
+def reduced(*point):
+    return tuple(n // math.gcd(*point) for n in point)
+
+
+def standard_point(rng):
+    far, wide = rng.choice(((FAR, WIDEST), (FAR, 9), (9, WIDEST), (9, 12), (10**6, 10**6)))
+    n = [rng.choice((rng.randint(-far, far), rng.randint(-far, far), 0, far, -far)) for _ in (0, 1)]
+    return reduced(0, n[0], 0, n[1], rng.choice((rng.randint(1, wide), wide)))
+
+
+def frame_point(rng):
+    wide, near = rng.choice(((NARROW, NEAR), (7, 9)))
+    w = rng.choice((rng.randint(1, wide), wide))
+    m = rng.choice((rng.randint(-w, w), rng.randint(-w, w), -w, 0, w))
+    n = rng.choice((rng.randint(-near, near), 0, near, -near))
+    if abs(m) == w:
+        n = -abs(n) if m > 0 else abs(n)
+    exact, along = (rng.choice((-w, w)), 0), (m, n)
+    return reduced(*(exact + along if rng.randrange(2) else along + exact), w)
+
+
+def near_point(rng):
+    """A point changed a little, often no point any more."""
+    point = list(rng.choice((standard_point, frame_point))(rng))
+    what, at, factor = rng.randrange(4), rng.randrange(5), rng.choice((2, 3, -1))
+    if what == 0:
+        return tuple(n * factor for n in point)
+    if what == 1:
+        point[at] += rng.choice((-1, 1))
+    elif what == 2:
+        point[at] = rng.choice((0, -point[at], WIDEST + 1, NARROW + 1, NEAR + 1, FAR + 1, -FAR - 1, I64 - 1, -I64))
+    else:
+        return tuple(rng.choice((rng.randint(-2, 2), rng.randrange(-I64, I64))) for _ in point)
+    return tuple(point)
