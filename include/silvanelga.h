@@ -38,7 +38,8 @@ enum silvanelga_refusal {
     SILVANELGA_TOO_MANY = 11,      /* * more than 512 objects */
     /* 12 was a refusal of earlier builds, and is not used again */
     SILVANELGA_NO_OBJECT = 13,     /* * object index below 0 or not below the count (silvanelga_side alone) */
-    SILVANELGA_LIST_LENGTH = 14    /*   list length not a multiple of five */
+    SILVANELGA_LIST_LENGTH = 14,   /*   list length not a multiple of five */
+    SILVANELGA_NOT_GIVEN = 21      /*   of the first three points of a circle, or a standard fourth, one that is no given point */
 };
 
 /* Are these `length` bytes a stored drawing? 0, or the refusal that reading them meets first. */

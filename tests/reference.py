@@ -1,6 +1,8 @@
-"""Document 01 once more, as document 02 changes it, in exact fractions and with no formula of the kernel: objects are cut at a concrete R
-and intersected as ordinary closed segments; what holds for every R is read off two R. Used by the programs of tests/ to compare with."""
+"""Document 01 once more, as document 02 changes it, in exact numbers and with no formula of the kernel: objects are cut at a concrete R
+and intersected as ordinary closed segments, and the side of a circle is the report's determinant of places at a concrete R; what holds for
+every R is read off two R. Used by the programs of tests/ to compare with."""
 from fractions import Fraction
+from itertools import combinations, permutations
 from math import gcd
 
 REACH, MOST = 2000, 512
@@ -8,7 +10,8 @@ WIDTH, ROW = 5, 8                               # numbers of an object in a list
 WIDEST, FAR = 32_000_000, 64_000_000_000        # w and n of a standard point
 NARROW, NEAR = 4_000, 8_000_000                 # w and n of a frame point
 FRAMES = (10**15, 3 * 10**18 + 7)               # the smallest frame that R-13 names, and one above that of demand 3
-REFUSALS = (*range(1, 12), 13, 14)              # the numbers that say no; 12 is taken out, and not used again
+CIRCLE_FRAMES = (2 * 10**18, FRAMES[1])         # the smallest frame of demand 3, which R-12 keeps, and one above
+REFUSALS = (*range(1, 12), 13, 14, 21)          # the numbers that say no; 12 is taken out, and not used again
 
 
 class Refused(Exception):
@@ -54,6 +57,20 @@ def point_refusals(mx, nx, my, ny, w):
     frame = 0 < w <= NARROW and largest <= NEAR and max(abs(mx * R + nx), abs(my * R + ny)) == R * w
     if not (standard or frame) or gcd(mx, nx, my, ny, w) != 1:
         yield 5
+
+
+def is_given(mx, nx, my, ny, w):
+    """Whether it is a point that a drawing may give: standard, w of 1, nx and ny within 2,000 either way."""
+    return (mx, my, w) == (0, 0, 1) and max(abs(nx), abs(ny)) <= REACH
+
+
+def circle_refusals(p, q, s, u):
+    """5 for each in turn, then 21. The fourth may be a frame point; where it is no point, it is no standard one."""
+    for point in (p, q, s, u):
+        yield from point_refusals(*point)
+    standard = u[0] == u[2] == 0 and refusal(point_refusals(*u)) == 0
+    if not all(is_given(*point) for point in (p, q, s)) or (standard and not is_given(*u)):
+        yield 21
 
 
 def refusal(refusals):
@@ -171,6 +188,31 @@ def share(a, b):
         return None
     part = Fraction(s0, 1) / (s0 - s1)
     return (b0[0] + part * (b1[0] - b0[0]), b0[1] + part * (b1[1] - b0[1]))
+
+
+# ---- the report's determinant, section 3.3: a column for each point, the rows 1, x, y and x*x + y*y
+
+# the ways to take one column for each of four rows, each with its sign: that of how many two of them stand the wrong way round
+WAYS = [((-1) ** sum(a > b for a, b in combinations(way, 2)), way) for way in permutations(range(4))]
+
+
+def determinant(rows):
+    """Of four by four, by its definition."""
+    a, b, c, d = rows
+    return sum(sign * a[i] * b[j] * c[k] * d[l] for sign, (i, j, k, l) in WAYS)
+
+
+def column(point, R):
+    """1, x, y and x*x + y*y of the place at R, times w*w: then all four are whole, and the determinant keeps its sign."""
+    mx, nx, my, ny, w = point
+    x, y = mx * R + nx, my * R + ny
+    return w * w, x * w, y * w, x * x + y * y
+
+
+def side_of_circle(p, q, s, u, R):
+    """1 where u is outside the circle through p, q and s, if these turn left, at R."""
+    found = determinant(zip(*(column(point, R) for point in (p, q, s, u))))
+    return (found > 0) - (found < 0)
 
 
 # ---- what holds for every R, from two of them

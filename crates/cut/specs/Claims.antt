@@ -11,10 +11,11 @@ use Rattle.sheet.specs.Refusal.{Accepted}
 use Rattle.sheet.specs.Points.{isPoint, narrow}
 use Rattle.sheet.specs.Ends.{firstEnd, lastEnd}
 use Rattle.sheet.specs.Signs.{order, turn, sideSign}
+use Rattle.sheet.specs.Circle.{sideOfCircle, circleRefusal}
 use Rattle.sheet.specs.Crossing.{Meeting, none, point, many, crossingOf}
 use Rattle.cut.specs.Place.{Place, SamePlace, put, spot}
 use Rattle.cut.specs.Cut.{Upto, Lies, OnlyShared, MoreShared, NothingShared}
-use Rattle.cut.specs.Ordinary.{Ordered, determinant, signOf, way, tail, tip}
+use Rattle.cut.specs.Ordinary.{Ordered, determinant, circleDeterminant, signOf, way, tail, tip}
 
 -- "the two ends, put at R, are the cut piece's ends in its direction": both are on the piece, and no place of it is before the first
 -- or beyond the last
@@ -47,7 +48,7 @@ pub record CrossingHolds (R : ℤ) (a b : Object) : Type 0 where
   pub many-exactly : (crossingOf a b ≡ many) ↔ MoreShared R a b
   pub none-exactly : (crossingOf a b ≡ none) ↔ NothingShared R a b
 
--- everything but turn: "For accepted objects and points .."
+-- everything but turn and side of circle: "For accepted objects and points .."
 pub record Holds (R : ℤ) : Type 0 where
   pub above : (p : Point) → isPoint p ≡ true → pos 0 <ℤ p .w
   pub ends : (o : Object) → Accepted o → EndsHold R o
@@ -67,3 +68,7 @@ pub record DemandAt (R : ℤ) : Type 0 where
       → narrow p ≡ true → narrow q ≡ true → narrow s ≡ true
       → (h : pos 0 <ℤ p .w) (k : pos 0 <ℤ q .w) (l : pos 0 <ℤ s .w)
       → signOf (determinant (put R p h) (put R q k) (put R s l)) ≡ turn p q s
+  -- "Demand 3 extends to it at the same R": the side of circle
+  pub circles : (p q s u : Point) → circleRefusal p q s u ≡ pos 0
+      → (h : pos 0 <ℤ p .w) (k : pos 0 <ℤ q .w) (l : pos 0 <ℤ s .w) (j : pos 0 <ℤ u .w)
+      → signOf (circleDeterminant (put R p h) (put R q k) (put R s l) (put R u j)) ≡ sideOfCircle p q s u

@@ -1,6 +1,7 @@
 -- Demand 3. To cite:
---   demand-3    every R of 2,000,000,000,000,000,000 or more: ends, order, turn, side, crossing, equal numbers (`Claims` says what each is)
---   from-small  all but turn, for every R of 1,000,000,000,000,000 or more
+--   demand-3    every R of 2,000,000,000,000,000,000 or more: ends, order, turn, side, crossing, equal numbers, side of circle (`Claims` says
+--               what each is)
+--   from-small  all but turn and side of circle, for every R of 1,000,000,000,000,000 or more
 --   from-need   the same for every R above what order needs, which is the most
 --   at-the-bound, at-the-small-bound   the two bounds are among them
 use mathlib.Core.Path.{subst}
@@ -13,6 +14,7 @@ use Rattle.sheet.specs.RefusalLaws.{accepted-drawn}
 use Rattle.sheet.specs.PointsLaws.{point-is, narrow-is, point-sizes}
 use Rattle.sheet.specs.Ends.{firstEnd, lastEnd}
 use Rattle.sheet.specs.Signs.{sideSign}
+use Rattle.sheet.specs.CircleLaws.{circle-taken}
 use Rattle.sheet.specs.Crossing.{none, many}
 use Rattle.cut.specs.Bounds.{endsNeed, crossingNeed, orderNeed}
 use Rattle.cut.specs.Place.{spot}
@@ -23,6 +25,7 @@ use Rattle.cut.specs.EndsAt.{ends-at}
 use Rattle.cut.specs.OrderAt.{order-at}
 use Rattle.cut.specs.TurnAt.{turn-at}
 use Rattle.cut.specs.SideAt.{side-at}
+use Rattle.cut.specs.CircleAt.{circle-at}
 use Rattle.cut.specs.SameNumbers.{same-numbers-at}
 use Rattle.cut.specs.CrossingAt.{Tells, tells-none, tells-many, crossing-tells, point-said, none-when, many-when, point-when}
 
@@ -78,6 +81,7 @@ demand-3 R hR = record {
   turns = λ p q s i j m np nq ns h k l.
       turn-at (<-≤-trans (ltZ-yes tt) hR) (point-is p .0 i) (point-is q .0 j) (point-is s .0 m)
       (narrow-is p .0 np) (narrow-is q .0 nq) (narrow-is s .0 ns) h k l;
+  circles = λ p q s u z h k l j. circle-at (<-≤-trans (ltZ-yes tt) hR) (circle-taken p q s u z) h k l j;
 }
 
 -- ---- the bounds themselves are taken

@@ -5,6 +5,7 @@ pub mod Cut
 pub mod Ordinary
 pub mod Claims
 pub mod WorkedBounds
+pub mod WorkedRound
 -- lines, places and the square
 pub mod Line
 pub mod Same
@@ -19,6 +20,8 @@ pub mod OrderAt
 pub mod SameNumbers
 pub mod TurnAt
 pub mod SideAt
+pub mod CircleAt
+pub mod Round
 -- crossing
 pub mod Pieces
 pub mod Says

@@ -1,4 +1,5 @@
 -- "order, turn and side have the ordinary signs": the order and the turn of places, and the way that an object points.
+use mathlib.Core.Path.{_≡_}
 use lib.IntN.{ℤ, pos, negsuc, negℤ}
 use Rattle.whole.specs.Sign.{sgn}
 use Rattle.whole.specs.Fraction.{Fraction, Equal, Less, sum, product, opposite}
@@ -24,9 +25,49 @@ determinant P Q S =
     (product (difference (Q .across) (P .across)) (difference (S .up) (P .up)))
     (product (difference (S .across) (P .across)) (difference (Q .up) (P .up)))
 
+-- "side of circle", as it is printed: a column for each place, with rows 1, x, y and x x + y y. Of the rows x, y and two columns; of the rows
+-- 1, x, y and three, by the first row; and of all, by the last row
+abbrev pub rowsXY : Place → Place → Fraction
+rowsXY P Q = difference (product (P .across) (Q .up)) (product (Q .across) (P .up))
+
+abbrev pub rows1XY : Place → Place → Place → Fraction
+rows1XY P Q S = sum (difference (rowsXY Q S) (rowsXY P S)) (rowsXY P Q)
+
+abbrev pub squared : Place → Fraction
+squared P = sum (product (P .across) (P .across)) (product (P .up) (P .up))
+
+abbrev pub circleDeterminant : Place → Place → Place → Place → Fraction
+circleDeterminant P Q S U =
+    difference
+    (sum (product (squared U) (rows1XY P Q S)) (product (squared Q) (rows1XY P S U)))
+    (sum (product (squared S) (rows1XY P Q U)) (product (squared P) (rows1XY Q S U)))
+
+-- the square of the distance of two places
+abbrev pub distanceSquared : Place → Place → Fraction
+distanceSquared P Q =
+    sum
+    (product (difference (P .across) (Q .across)) (difference (P .across) (Q .across)))
+    (product (difference (P .up) (Q .up)) (difference (P .up) (Q .up)))
+
+-- C is the centre of a circle through P, Q and S
+pub record Centre (C P Q S : Place) : Type 0 where
+  pub second-as-far : Equal (distanceSquared C P) (distanceSquared C Q)
+  pub third-as-far : Equal (distanceSquared C P) (distanceSquared C S)
+
 -- denominators are above 0
 abbrev pub signOf : Fraction → ℤ
 signOf a = sgn (a .num)
+
+-- 1 where a is more than b, 0 where they are the same, -1 where it is less
+pub data Compared (a b : Fraction) : ℤ → Type 0 where
+  is-more : Less b a → Compared a b (pos 1)
+  as-much : Equal a b → Compared a b (pos 0)
+  is-less : Less a b → Compared a b (negsuc 0)
+
+-- on which side U is of the circle about C through P, Q and S: by the distances of U and P from C, as the three turn
+pub record SideTold (C P Q S U : Place) (c : ℤ) : Type 0 where
+  pub turning-left : signOf (determinant P Q S) ≡ pos 1 → Compared (distanceSquared C U) (distanceSquared C P) c
+  pub turning-right : signOf (determinant P Q S) ≡ negsuc 0 → Compared (distanceSquared C P) (distanceSquared C U) c
 
 -- the direction of an object: a side has the inside on its left
 abbrev pub way : Figure → Vec

@@ -6,6 +6,7 @@
 --   side-..       at 64,000,000,000 a point is on the line of a side, and not left of it
 --   order-..      at 256,000,008,000,000 two points have one x, and the second is lower
 --   turn-..       at 1,023,871,872,008,004,000, so turn cannot have the smaller bound, three points are on one line
+--   circle-..     at 31,960,016,000 the far end of a ray is on the circle through three given points
 -- of which accepted, what we answer (ours), and what is so at that R (ordinary, outside, not-before)
 use mathlib.Core.Path.{_≡_, refl}
 use lib.IntN.{ℤ, pos, _*ℤ_}
@@ -20,13 +21,14 @@ use Rattle.sheet.specs.Refusal.{pairRefusal, sideRefusal, objectRefusal}
 use Rattle.sheet.specs.Points.{divided, standard, narrow, frame, isPoint, pointRefusal}
 use Rattle.sheet.specs.Ends.{farRaw, farEnd, lastEnd}
 use Rattle.sheet.specs.Signs.{order, turnPoly, turn, sideSign, orderRefusal, turnRefusal, sideSignRefusal}
+use Rattle.sheet.specs.Circle.{circlePoly, sideOfCircle, isGiven, givenRefusal, circleRefusal}
 use Rattle.sheet.specs.Crossing.{pieces, withSide, withPiece, meeting, crossingOf, crossingRefusal}
 use Rattle.sheet.specs.Crossing as crossing
 use Rattle.sheet.specs.Cases.{minus, line, side, point}
 use Rattle.cut.specs.Bounds.{sideNeed, orderNeed}
 use Rattle.cut.specs.Place.{Place, Spot, put, at, spot}
 use Rattle.cut.specs.Cut.{out, InSquare, On, on-line, on-side, Lies, Shared}
-use Rattle.cut.specs.Ordinary.{Ordered, x-less, y-less, y-more, determinant, signOf, tail, tip}
+use Rattle.cut.specs.Ordinary.{Ordered, x-less, y-less, y-more, determinant, circleDeterminant, signOf, tail, tip}
 
 -- what is on a line is in the square
 within : {R : ℤ} {p q : Vec} {S : Spot} → On R (figure.line p q) S → InSquare R S
@@ -189,3 +191,33 @@ pub turn-ordinary : (h : pos 0 <ℤ from .w) (k : pos 0 <ℤ to .w) (l : pos 0 <
     → signOf (determinant (put R-turn from h) (put R-turn to k) (put R-turn beside l)) ≡ pos 0
 unfolding sgn
 turn-ordinary h k l = refl
+
+-- ---- side of circle: three given points almost on one line, and the middle of the bottom side
+
+abbrev pub R-circle : ℤ
+R-circle = pos 31960016000
+
+abbrev pub middle : Point
+middle = point (pos 0) (pos 0) (pos 0) (minus 1) (pos 1)
+
+abbrev pub lowest : Point
+lowest = point (pos 0) (minus 2000) (pos 0) (minus 2000) (pos 1)
+
+abbrev pub highest : Point
+highest = point (pos 0) (pos 1999) (pos 0) (pos 1997) (pos 1)
+
+abbrev pub straight-down : Point
+straight-down = point (pos 0) (pos 0) (minus 1) (pos 0) (pos 1)
+
+pub circle-accepted : circleRefusal middle lowest highest straight-down ≡ pos 0
+unfolding sgn steps gcd gcdOf standard narrow frame isPoint pointRefusal isGiven givenRefusal circleRefusal
+circle-accepted = refl
+
+pub circle-ours : sideOfCircle middle lowest highest straight-down ≡ pos 1
+unfolding sgn circlePoly sideOfCircle
+circle-ours = refl
+
+pub circle-ordinary : (h : pos 0 <ℤ middle .w) (k : pos 0 <ℤ lowest .w) (l : pos 0 <ℤ highest .w) (j : pos 0 <ℤ straight-down .w)
+    → signOf (circleDeterminant (put R-circle middle h) (put R-circle lowest k) (put R-circle highest l) (put R-circle straight-down j)) ≡ pos 0
+unfolding sgn
+circle-ordinary h k l j = refl

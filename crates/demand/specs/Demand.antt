@@ -1,15 +1,17 @@
 -- What the code's answers mean at a concrete R. To cite:
 --   smaller-frame  for every R of 1,000,000,000,000,000 or more and every input, an answer that meets the contract of ends, order, side or
 --                  crossing is what the cut pieces at R say, or the refusal that the paper names
---   demand         demand 3: for every R of 2,000,000,000,000,000,000 or more the same, and turn too
+--   demand         demand 3: for every R of 2,000,000,000,000,000,000 or more the same, and turn and side of circle too
+--   circle-means   what a side of circle that is answered says of the circle through the three places: outside, on it or inside
 --   at-the-smaller-bound, at-the-bound   the two bounds are among them
---   smallest       all but turn holds from b on exactly where b is above 256,000,008,000,000
+--   smallest       all but these two holds from b on exactly where b is above 256,000,008,000,000
 -- The contracts are the functions' own (`Post`), which the kernel's code is proved to meet.
 use mathlib.Core.Path.{_≡_, refl, sym, ap, _∙_, subst}
 use mathlib.Core.Logic.{_⊎_, inl, inr, _↔_}
 use mathlib.Core.List.{[], _∷_, _++_}
 use lib.IntN.{ℤ, pos}
 use lib.Signed.{_≤ℤ_, _<ℤ_, ltZ-yes, leZ-yes}
+use contract.Lifetimes.{Lfts}
 use Rattle.sheet.specs.declared.Object.{Object}
 use Rattle.sheet.specs.declared.Point.{Point}
 use Rattle.sheet.specs.declared.Ends.{Ends}
@@ -22,15 +24,22 @@ use Rattle.sheet.specs.Refusal.{Accepted, objectRefusal}
 use Rattle.sheet.specs.Points.{numbers}
 use Rattle.sheet.specs.Ends.{firstEnd, lastEnd}
 use Rattle.sheet.specs.Signs.{order, turn, sideSign, orderRefusal, turnRefusal, sideSignRefusal}
+use Rattle.sheet.specs.Circle.{sideOfCircle, circleRefusal}
+use Rattle.sheet.specs.CircleLaws.{circle-points}
 use Rattle.sheet.specs.Answers.{answer, endsSay, signedSays, meetingNumbers, crossingSays}
 use Rattle.sheet.specs.AnswersLaws.{by-answer, ends-one, signed-one, crossing-one}
 use Rattle.sheet.specs.AcceptsLaws.{order-taken, turn-taken, side-taken, cross-taken, taken-cross}
 use Rattle.sheet.specs.Crossing.{Meeting, none, point, many, crossingOf, crossingRefusal}
 use Rattle.whole.specs.Order.{≤-trans, <-≤-trans, le-or-lt}
+use Rattle.cut.specs.Place.{put, Spot}
+use Rattle.cut.specs.Ordinary.{Centre, SideTold}
+use Rattle.cut.specs.Same.{placeOf, spotAt}
+use Rattle.cut.specs.Round.{round}
 use Rattle.cut.specs.Claims.{EndsHold, CrossingHolds, Holds, DemandAt}
 use Rattle.cut.specs.Bounds.{orderNeed}
 use Rattle.cut.specs.Demand.{from-need, demand-3}
-use Rattle.demand.specs.Said.{PieceEnds, EndsSaid, ends-refused, ends-given, OrderSaid, order-refused, order-given, TurnSaid, turn-refused, turn-given, SideSaid, side-refused, side-given, Exactly, CrossSaid, cross-refused, cross-given, CodeHolds, CodeAt}
+use Rattle.kernel.proofs.circle.side_of_circle.Reads as side-of-circle
+use Rattle.demand.specs.Said.{PieceEnds, EndsSaid, ends-refused, ends-given, OrderSaid, order-refused, order-given, TurnSaid, turn-refused, turn-given, CircleSaid, circle-refused, circle-given, SideSaid, side-refused, side-given, Exactly, CrossSaid, cross-refused, cross-given, CodeHolds, CodeAt}
 use Rattle.demand.specs.WorkedBounds.{orders-fail}
 
 -- ---- a crossing as it is answered, and back
@@ -136,6 +145,19 @@ turn-said R d p q t =
     turn-given z h k l (sym (d .turns p q t (i .0) (i .1) (i .2) (i .3) (i .4) (i .5) h k l)))
     (turn-refused refl)
 
+circle-said : (R : ℤ) → DemandAt R → (p q s u : Point) (r : Signed)
+    → signedSays r ≡ answer (circleRefusal p q s u) (sideOfCircle p q s u ∷ []) → CircleSaid R p q s u r
+circle-said R d p q s u =
+    by-answer signed-one (CircleSaid R p q s u) (signed.Sign (sideOfCircle p q s u)) (signed.Refused (circleRefusal p q s u)) refl refl
+    (λ z.
+    let i = circle-points p q s u z in
+    let h = d .holds .above p (i .0) in
+    let k = d .holds .above q (i .1) in
+    let l = d .holds .above s (i .2) in
+    let j = d .holds .above u (i .3) in
+    circle-given z h k l j (sym (d .circles p q s u z h k l j)))
+    (circle-refused refl)
+
 cross-exactly : {R : ℤ} {a b : Object} {r : Crossing} → Accepted a → Accepted b → CrossSaid R a b r → Exactly R a b r
 cross-exactly s t (cross-refused e n) = absurd (n (e ∙ taken-cross s t))
 cross-exactly s t (cross-given z h) = h
@@ -163,7 +185,23 @@ pub demand : (R : ℤ) → pos 2000000000000000000 ≤ℤ R → CodeAt R
 demand R hR = record {
   holds = smaller-frame R (≤-trans (leZ-yes tt) hR);
   turns = λ κs p q t r. turn-said R (demand-3 R hR) p q t r;
+  circles = λ κs p q s u r. circle-said R (demand-3 R hR) p q s u r;
 }
+
+-- ---- what a side of circle means
+
+-- C, any place over one denominator, is the centre of a circle through the first three: then the sign tells by the distances from C whether
+-- the fourth is outside, on the circle or inside
+pub circle-means : (R : ℤ) → pos 2000000000000000000 ≤ℤ R → (κs : Lfts 0) (p q s u : Point) (c : ℤ)
+    → side-of-circle.Post κs (p, (q, (s, (u, tt)))) (signed.Sign c) (p, (q, (s, (u, tt))))
+    → (h : pos 0 <ℤ p .w) (k : pos 0 <ℤ q .w) (l : pos 0 <ℤ s .w) (j : pos 0 <ℤ u .w)
+    → (C : Spot) → Centre (placeOf C) (put R p h) (put R q k) (put R s l) → SideTold (placeOf C) (put R p h) (put R q k) (put R s l) (put R u j) c
+circle-means R hR κs p q s u c a h k l j C m = go (demand R hR .circles κs p q s u (signed.Sign c) a)
+  where
+    go : CircleSaid R p q s u (signed.Sign c) → SideTold (placeOf C) (put R p h) (put R q k) (put R s l) (put R u j) c
+    go (circle-given z h′ k′ l′ j′ e) =
+        subst (SideTold (placeOf C) (put R p h) (put R q k) (put R s l) (put R u j)) (sym e)
+        (round C (spotAt R p h) (spotAt R q k) (spotAt R s l) (spotAt R u j) m)
 
 -- ---- the bounds themselves are taken
 
@@ -175,7 +213,7 @@ at-the-bound = demand (pos 2000000000000000000) (leZ-yes tt)
 
 -- ---- how small a frame may be
 
--- at what order needs it fails, so from b on all but turn holds exactly where b is larger
+-- at what order needs it fails, so from b on all but turn and side of circle holds exactly where b is larger
 pub smallest : (b : ℤ) → ((R : ℤ) → b ≤ℤ R → CodeHolds R) ↔ (pos 256000008000000 <ℤ b)
 smallest b = (λ h. go h (le-or-lt b (pos orderNeed)), λ h R hR. above-need R (<-≤-trans h hR))
   where

@@ -16,16 +16,18 @@ use Rattle.sheet.specs.declared.Crossing.the-variants as crossing
 use Rattle.sheet.specs.Figure.{figure}
 use Rattle.sheet.specs.Refusal.{Accepted, objectRefusal}
 use Rattle.sheet.specs.Signs.{orderRefusal, turnRefusal, sideSignRefusal}
+use Rattle.sheet.specs.Circle.{circleRefusal}
 use Rattle.sheet.specs.Crossing.{crossingRefusal}
 use Rattle.cut.specs.Place.{Place, SamePlace, put, spot}
 use Rattle.cut.specs.Cut.{Upto, Lies, OnlyShared, MoreShared, NothingShared}
 use Rattle.cut.specs.Claims.{SharedPoint}
-use Rattle.cut.specs.Ordinary.{Ordered, determinant, signOf, way, tail, tip}
+use Rattle.cut.specs.Ordinary.{Ordered, determinant, circleDeterminant, signOf, way, tail, tip}
 use Rattle.kernel.proofs.ends.ends_of.Reads as ends-of
 use Rattle.kernel.proofs.signs.order_points.Reads as order-points
 use Rattle.kernel.proofs.signs.turn_points.Reads as turn-points
 use Rattle.kernel.proofs.signs.side_of.Reads as side-of
 use Rattle.kernel.proofs.crossing.cross.Reads as cross
+use Rattle.kernel.proofs.circle.side_of_circle.Reads as side-of-circle
 
 -- "the two ends, put at R, are the cut piece's ends in its direction"
 pub record PieceEnds (R : ℤ) (o : Object) (p q : Point) : Type 0 where
@@ -49,6 +51,12 @@ pub data TurnSaid (R : ℤ) (p q t : Point) : Signed → Type 0 where
   turn-refused : {n : ℤ} → n ≡ turnRefusal p q t → (n ≡ pos 0 → ⊥) → TurnSaid R p q t (signed.Refused n)
   turn-given : {s : ℤ} → turnRefusal p q t ≡ pos 0 → (h : pos 0 <ℤ p .w) (k : pos 0 <ℤ q .w) (l : pos 0 <ℤ t .w)
       → s ≡ signOf (determinant (put R p h) (put R q k) (put R t l)) → TurnSaid R p q t (signed.Sign s)
+
+-- "Demand 3 extends to it at the same R"
+pub data CircleSaid (R : ℤ) (p q s u : Point) : Signed → Type 0 where
+  circle-refused : {n : ℤ} → n ≡ circleRefusal p q s u → (n ≡ pos 0 → ⊥) → CircleSaid R p q s u (signed.Refused n)
+  circle-given : {c : ℤ} → circleRefusal p q s u ≡ pos 0 → (h : pos 0 <ℤ p .w) (k : pos 0 <ℤ q .w) (l : pos 0 <ℤ s .w) (j : pos 0 <ℤ u .w)
+      → c ≡ signOf (circleDeterminant (put R p h) (put R q k) (put R s l) (put R u j)) → CircleSaid R p q s u (signed.Sign c)
 
 pub data SideSaid (R : ℤ) (o : Object) (t : Point) : Signed → Type 0 where
   side-refused : {n : ℤ} → n ≡ sideSignRefusal o t → (n ≡ pos 0 → ⊥) → SideSaid R o t (signed.Refused n)
@@ -77,7 +85,7 @@ pub data CrossSaid (R : ℤ) (a b : Object) : Crossing → Type 0 where
 
 -- ---- every call, at one R
 
--- all but turn
+-- all but turn and side of circle
 pub record CodeHolds (R : ℤ) : Type 0 where
   pub ends : (κs : Lfts 0) (o : Object) (r : Ends) → ends-of.Post κs (o, tt) r (o, tt) → EndsSaid R o r
   pub orders : (κs : Lfts 0) (p q : Point) (r : Signed) → order-points.Post κs (p, (q, tt)) r (p, (q, tt)) → OrderSaid R p q r
@@ -91,3 +99,5 @@ pub record CodeAt (R : ℤ) : Type 0 where
   pub holds : CodeHolds R
   pub turns : (κs : Lfts 0) (p q t : Point) (r : Signed)
       → turn-points.Post κs (p, (q, (t, tt))) r (p, (q, (t, tt))) → TurnSaid R p q t r
+  pub circles : (κs : Lfts 0) (p q s u : Point) (r : Signed)
+      → side-of-circle.Post κs (p, (q, (s, (u, tt)))) r (p, (q, (s, (u, tt)))) → CircleSaid R p q s u r

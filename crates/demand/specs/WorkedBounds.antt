@@ -1,6 +1,6 @@
 -- The code at the R of `cut/specs/WorkedBounds`: its answers to those objects and points are not what the cut pieces say there. To cite:
 --   ends-fail 3,999,999, touches-fail 4,000,000, crossings-fail 63,968,005,999, sides-fail 64,000,000,000, orders-fail 256,000,008,000,000
---   turns-fail 1,023,871,872,008,004,000
+--   turns-fail 1,023,871,872,008,004,000, circles-fail 31,960,016,000
 --   first-twice, last-twice   one end of a segment in the place of both is no answer, at R of 1,000,000,000,000,000
 -- So what `Said` asks of each call does not hold of every answer.
 use mathlib.Core.Path.{_≡_, refl, sym, _∙_, ap}
@@ -21,8 +21,8 @@ use Rattle.sheet.specs.AcceptsLaws.{cross-taken}
 use Rattle.sheet.specs.Cases.{minus, segment, at}
 use Rattle.cut.specs.Demand.{at-the-small-bound}
 use Rattle.cut.specs.WorkedBounds as worked
-use Rattle.cut.specs.WorkedBounds.{R-ends, steep, R-touch, top-side, corner, R-crossing, upper, lower, shared, R-side, left-side, farthest, R-order, still, below, R-turn, from, to, beside}
-use Rattle.demand.specs.Said.{EndsSaid, ends-given, OrderSaid, order-given, TurnSaid, turn-given, SideSaid, side-given, Exactly, CodeHolds, CodeAt}
+use Rattle.cut.specs.WorkedBounds.{R-ends, steep, R-touch, top-side, corner, R-crossing, upper, lower, shared, R-side, left-side, farthest, R-order, still, below, R-turn, from, to, beside, R-circle, middle, lowest, highest, straight-down}
+use Rattle.demand.specs.Said.{EndsSaid, ends-given, OrderSaid, order-given, TurnSaid, turn-given, CircleSaid, circle-given, SideSaid, side-given, Exactly, CodeHolds, CodeAt}
 
 -- ---- an answer to what is accepted
 
@@ -85,3 +85,9 @@ turns-fail c = go (c .turns tt from to beside (signed.Sign (minus 1)) (sign-met 
   where
     go : TurnSaid R-turn from to beside (signed.Sign (minus 1)) → ⊥
     go (turn-given z h k l e) = eqZ-false {a = minus 1} {b = pos 0} refl (e ∙ worked.turn-ordinary h k l)
+
+pub circles-fail : CodeAt R-circle → ⊥
+circles-fail c = go (c .circles tt middle lowest highest straight-down (signed.Sign (pos 1)) (sign-met worked.circle-accepted worked.circle-ours))
+  where
+    go : CircleSaid R-circle middle lowest highest straight-down (signed.Sign (pos 1)) → ⊥
+    go (circle-given z h k l j e) = eqZ-false {a = pos 1} {b = pos 0} refl (e ∙ worked.circle-ordinary h k l j)

@@ -15,6 +15,7 @@ use Rattle.kernel.proofs.signs.order_points.Reads as order-points
 use Rattle.kernel.proofs.signs.turn_points.Reads as turn-points
 use Rattle.kernel.proofs.signs.side_of.Reads as side-of
 use Rattle.kernel.proofs.crossing.cross.Reads as cross
+use Rattle.kernel.proofs.circle.side_of_circle.Reads as side-of-circle
 
 pub check-object-answer :
     (κs : Lfts 0) (o : Object) (r s : ℤ) → check-object.Post κs (o, tt) r (o, tt) → check-object.Post κs (o, tt) s (o, tt) → r ≡ s
@@ -49,3 +50,9 @@ side-of-answer κs a r s p q = signed-one r s (p ∙ sym q)
 pub cross-answer : (κs : Lfts 0) (a b : Object) (r s : Crossing)
     → cross.Post κs (a, (b, tt)) r (a, (b, tt)) → cross.Post κs (a, (b, tt)) s (a, (b, tt)) → r ≡ s
 cross-answer κs a b r s p q = crossing-one r s (p ∙ sym q)
+
+abbrev Four : Type 0
+Four = Point × (Point × (Point × (Point × Unit {0})))
+
+pub side-of-circle-answer : (κs : Lfts 0) (a : Four) (r s : Signed) → side-of-circle.Post κs a r a → side-of-circle.Post κs a s a → r ≡ s
+side-of-circle-answer κs a r s p q = signed-one r s (p ∙ sym q)

@@ -64,11 +64,15 @@ pub record Pair (px py qx qy : ℤ) : Type 0 where
   pub bqx : Within 2000 qx
   pub bqy : Within 2000 qy
 
+-- three given points
+pub record Three (px py qx qy sx sy : ℤ) : Type 0 where
+  pub near : All (2000 ∷ 2000 ∷ 2000 ∷ 2000 ∷ 2000 ∷ 2000 ∷ []) (px ∷ py ∷ qx ∷ qy ∷ sx ∷ sy ∷ [])
+
 -- eight coordinates of given points
 abbrev pub eight : List ℕ
 eight = 2000 ∷ 2000 ∷ 2000 ∷ 2000 ∷ 2000 ∷ 2000 ∷ 2000 ∷ 2000 ∷ []
 
--- the given points of two objects that are no sides
+-- four given points, as those of two objects that are no sides
 pub record Near (px py qx qy rx ry sx sy : ℤ) : Type 0 where
   pub near : All eight (px ∷ py ∷ qx ∷ qy ∷ rx ∷ ry ∷ sx ∷ sy ∷ [])
 

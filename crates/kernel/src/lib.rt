@@ -1,4 +1,4 @@
-// The kernel: ends, order, turn, side and crossing of the objects and points of a sheet. Every public call takes any numbers.
+// The kernel: ends, order, turn, side, crossing and side of circle of the objects and points of a sheet. Every public call takes any numbers.
 //
 // What R is. A sheet stands in a square frame, from -R to R in x and in y. Rays and lines go on to the frame and end there. Such an end is
 // no pair of plain numbers, since it moves as R grows. It moves evenly, and so a point is five whole numbers (mx, nx, my, ny, w): at R it
@@ -23,6 +23,9 @@
 // From which R on. For every whole R of 2,000,000,000,000,000,000 or more, which is above all lower coefficients of a turn, the answers are
 // those of ordinary geometry on the sheet cut at the square from -R to R. Crate cut proves it of the definitions, and crate demand of the
 // code. All but the turn hold from 1,000,000,000,000,000 on, as crate cut shows.
+//
+// The side of circle goes another way: its coefficients do not fit, and circle.rt says how its sign is found without them.
+pub mod circle;
 pub mod crossing;
 mod divide;
 pub mod ends;

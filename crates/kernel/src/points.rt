@@ -1,5 +1,6 @@
 // Which five numbers are a point.
 use crate::divide::divisor;
+use sheet::Object;
 use sheet::Point;
 ghost use mathlib.Core.Path.{_≡_};
 ghost use mathlib.Core.Bool.{_&&_};
@@ -7,6 +8,7 @@ ghost use lib.IntN.{pos};
 ghost use lib.Signed.{leZ};
 ghost use Rattle.sheet.specs.Refusal.{objectRefusal};
 ghost use Rattle.sheet.specs.Points.{standard, edge, inSquare, narrow, frame, isPoint, pointRefusal};
+ghost use Rattle.sheet.specs.Circle.{isGiven};
 
 fn is_between(lo: i64, hi: i64, z: i64) -> bool
     ensures { λ r. ⌜ r ≡ leZ lo z && leZ z hi ⌝ }
@@ -22,6 +24,14 @@ fn is_standard(mx: i64, nx: i64, my: i64, ny: i64, w: i64) -> bool
     let nx_in = is_between(-Point::STANDARD_N, Point::STANDARD_N, nx);
     let ny_in = is_between(-Point::STANDARD_N, Point::STANDARD_N, ny);
     flat & over & nx_in & ny_in
+}
+
+fn is_given(mx: i64, nx: i64, my: i64, ny: i64, w: i64) -> bool
+    ensures { λ r. ⌜ r ≡ isGiven (record { mx = mx; nx = nx; my = my; ny = ny; w = w }) ⌝ }
+{
+    let nx_in = is_between(-Object::REACH, Object::REACH, nx);
+    let ny_in = is_between(-Object::REACH, Object::REACH, ny);
+    is_standard(mx, nx, my, ny, w) & (w == 1) & nx_in & ny_in
 }
 
 fn is_narrow(mx: i64, nx: i64, my: i64, ny: i64, w: i64) -> bool
@@ -79,7 +89,7 @@ pub fn check_point(p: Point) -> i64
 }
 
 // 0 for an object, or its refusal.
-pub fn check_object(o: sheet::Object) -> i64
+pub fn check_object(o: Object) -> i64
     ensures { λ r. ⌜ r ≡ objectRefusal o ⌝ }
 {
     sheet::object_refusal(o)
@@ -90,4 +100,17 @@ pub(crate) fn check_narrow(p: Point) -> bool
     ensures { λ r. ⌜ r ≡ narrow p ⌝ }
 {
     is_narrow(p.mx, p.nx, p.my, p.ny, p.w)
+}
+
+pub(crate) fn check_standard(p: Point) -> bool
+    ensures { λ r. ⌜ r ≡ standard p ⌝ }
+{
+    is_standard(p.mx, p.nx, p.my, p.ny, p.w)
+}
+
+// Whether a point is a given one, as those of objects are.
+pub(crate) fn check_given(p: Point) -> bool
+    ensures { λ r. ⌜ r ≡ isGiven p ⌝ }
+{
+    is_given(p.mx, p.nx, p.my, p.ny, p.w)
 }

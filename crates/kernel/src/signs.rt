@@ -20,7 +20,7 @@ ghost use Rattle.kernel.specs.Forms.{pairSide};
 ghost use Rattle.kernel.specs.Bounds.{Coordinate, Row, NarrowSizes, Pair};
 
 // The first refusal of two.
-fn or_else(n: i64, m: i64) -> i64
+pub(crate) fn or_else(n: i64, m: i64) -> i64
     ensures { λ r. ⌜ r ≡ orElse n m ⌝ }
 {
     if n == 0 {
@@ -158,7 +158,17 @@ pub fn turn_points(p: Point, q: Point, s: Point) -> Signed
 // ---- side
 
 // Of the line from p to q: dx Y - dy X - w k.
-fn pair_side(px: i64, py: i64, qx: i64, qy: i64, mx: i64, nx: i64, my: i64, ny: i64, w: i64) -> i64
+pub(crate) fn pair_side(
+    px: i64,
+    py: i64,
+    qx: i64,
+    qy: i64,
+    mx: i64,
+    nx: i64,
+    my: i64,
+    ny: i64,
+    w: i64,
+) -> i64
     requires { ⌜ Pair px py qx qy × Coordinate mx nx w × Coordinate my ny w ⌝ }
     ensures { λ r. ⌜ r ≡ pairSide px py qx qy mx nx my ny w ⌝ }
 {

@@ -48,6 +48,7 @@ use Rattle.kernel.proofs.ends.ends_of.Reads as ends-of
 use Rattle.kernel.proofs.signs.order_points.Reads as order-points
 use Rattle.kernel.proofs.signs.turn_points.Reads as turn-points
 use Rattle.kernel.proofs.signs.side_of.Reads as side-of
+use Rattle.kernel.proofs.circle.side_of_circle.Reads as side-of-circle
 use Rattle.kernel.proofs.crossing.cross.Reads as cross
 use Rattle.store.proofs.check_drawing.Reads as check-drawing
 use Rattle.store.proofs.read_drawing.Reads as read-drawing
@@ -75,6 +76,7 @@ use Rattle.spot.proofs.silvanelga_spot_ends.Reads as spot-ends
 use Rattle.spot.proofs.silvanelga_spot_order.Reads as spot-order
 use Rattle.spot.proofs.silvanelga_spot_side.Reads as spot-side
 use Rattle.spot.proofs.silvanelga_spot_cross.Reads as spot-cross
+use Rattle.spot.proofs.silvanelga_spot_circle.Reads as spot-circle
 
 -- four or five numbers, as a call takes them
 abbrev pub Four : Type 0
@@ -105,6 +107,8 @@ pub record Calls (P : ℤ → Type 0) : Type 0 where
   pub of-turn-points : (κs : Lfts 0) (p q s : Point) (r : Signed)
       → turn-points.Post κs (p, (q, (s, tt))) r (p, (q, (s, tt))) → P (refusalIn (signedSays r))
   pub of-side-of : (κs : Lfts 0) (o : Object) (s : Point) (r : Signed) → side-of.Post κs (o, (s, tt)) r (o, (s, tt)) → P (refusalIn (signedSays r))
+  pub of-side-of-circle : (κs : Lfts 0) (p q s u : Point) (r : Signed)
+      → side-of-circle.Post κs (p, (q, (s, (u, tt)))) r (p, (q, (s, (u, tt)))) → P (refusalIn (signedSays r))
   pub of-cross : (κs : Lfts 0) (a b : Object) (r : Crossing) → cross.Post κs (a, (b, tt)) r (a, (b, tt)) → P (refusalIn (crossingSays r))
   -- store: drawings checked, read and written, and read one object a call
   pub of-check-drawing : (κs : Lfts 1) (bytes : RefT (List ℕ)) (r : ℤ) → check-drawing.Post κs (bytes, tt) r (bytes, tt) → P r
@@ -145,11 +149,13 @@ pub record Calls (P : ℤ → Type 0) : Type 0 where
       → measure-write.Post κs (list, (out, tt)) r (list, (after, tt)) → P r
   pub of-measure-place : (κs : Lfts 0) (a : Five) (r : Shown) → measure-place.Post κs a r a → P (r .refusal)
   pub of-measure-box : (κs : Lfts 1) (l : RefT (List ℤ)) (r : Shown) → measure-box.Post κs (l, tt) r (l, tt) → P (r .refusal)
-  -- spot: the calls for tests/spot_check.c
+  -- spot: the calls for tests/spot_check.c and tests/circle.c
   pub of-spot-ends : (κs : Lfts 0) (o : Object) (r : TwoEnds) → spot-ends.Post κs (o, tt) r (o, tt) → P (r .refusal)
   pub of-spot-order : (κs : Lfts 0) (p q : Point) (r : Answer) → spot-order.Post κs (p, (q, tt)) r (p, (q, tt)) → P (r .refusal)
   pub of-spot-side : (κs : Lfts 0) (o : Object) (s : Point) (r : Answer) → spot-side.Post κs (o, (s, tt)) r (o, (s, tt)) → P (r .refusal)
   pub of-spot-cross : (κs : Lfts 0) (a b : Object) (r : Answer) → spot-cross.Post κs (a, (b, tt)) r (a, (b, tt)) → P (r .refusal)
+  pub of-spot-circle : (κs : Lfts 0) (p q s u : Point) (r : Answer)
+      → spot-circle.Post κs (p, (q, (s, (u, tt)))) r (p, (q, (s, (u, tt)))) → P (r .refusal)
 
 -- no call refuses by n
 abbrev pub Never : ℕ → Type 0

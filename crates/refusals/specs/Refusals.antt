@@ -22,7 +22,7 @@ use Rattle.sheet.specs.declared.Object.{Object}
 use Rattle.sheet.specs.declared.Point.{Point}
 use Rattle.sheet.specs.declared.Crossing.the-variants as crossing
 use Rattle.sheet.specs.RefusalTable.{refusals, among, Known}
-use Rattle.sheet.specs.RefusalTableLaws.{one-of, one-among, not-one, known-or, known-pair, known-side, known-object, known-point, known-order, known-turn, known-side-sign, known-crossing, known-list, known-index, known-room, refusal-in}
+use Rattle.sheet.specs.RefusalTableLaws.{one-of, one-among, not-one, known-or, known-pair, known-side, known-object, known-point, known-order, known-turn, known-side-sign, known-circle, known-crossing, known-list, known-index, known-room, refusal-in}
 use Rattle.sheet.specs.Points.{standard, pointRefusal}
 use Rattle.sheet.specs.Signs.{orElse}
 use Rattle.sheet.specs.Lists.{rowWidth, listRefusal, indexRefusal}
@@ -177,6 +177,7 @@ calls P f = record {
   of-ends-of = λ κs o r e. f _ (known-answer _ _ (known-object o) e);
   of-order-points = λ κs p q r e. f _ (known-answer _ _ (known-order p q) e);
   of-turn-points = λ κs p q s r e. f _ (known-answer _ _ (known-turn p q s) e);
+  of-side-of-circle = λ κs p q s u r e. f _ (known-answer _ _ (known-circle p q s u) e);
   of-side-of = λ κs o s r e. f _ (known-answer _ _ (known-side-sign o s) e);
   of-cross = λ κs a b r e. f _ (known-answer _ _ (known-crossing a b) e);
   of-check-drawing = λ κs bytes r e. f _ (subst Known (sym e) (known-bytes (bytes .now)));
@@ -210,6 +211,7 @@ calls P f = record {
   of-spot-order = λ κs p q r e. f _ (known-shown _ _ (known-order p q) (ap (λ (x : Answer). x .refusal) e));
   of-spot-side = λ κs o s r e. f _ (known-shown _ _ (known-side-sign o s) (ap (λ (x : Answer). x .refusal) e));
   of-spot-cross = λ κs a b r e. f _ (known-shown _ _ (known-crossing a b) (ap (λ (x : Answer). x .refusal) e));
+  of-spot-circle = λ κs p q s u r e. f _ (known-shown _ _ (known-circle p q s u) (ap (λ (x : Answer). x .refusal) e));
 }
 
 -- "one of the numbered refusals"

@@ -1,5 +1,5 @@
--- Every number of the table is given, each by an example: what the contracts name (a crossing's refusal, a turn's, that of one object's rows,
--- of reading into a lent list) computed on it. And what the answers of silvanelga_side refuse by.
+-- Every number of the table is given, each by an example: what the contracts name (a crossing's refusal, a turn's, a side of circle's, that of
+-- one object's rows, of reading into a lent list) computed on it. And what the answers of silvanelga_side refuse by.
 use mathlib.Core.Path.{_≡_, refl}
 use mathlib.Core.List.{List, [], _∷_}
 use Prim.Native.Nat.{ℕ}
@@ -13,6 +13,7 @@ use Rattle.sheet.specs.Refusal.{pairRefusal, sideRefusal, objectRefusal}
 use Rattle.sheet.specs.RefusalTable.{refusals}
 use Rattle.sheet.specs.Points.{standard, narrow, frame, isPoint, pointRefusal}
 use Rattle.sheet.specs.Signs.{turnRefusal}
+use Rattle.sheet.specs.Circle.{isGiven, givenRefusal, circleRefusal}
 use Rattle.sheet.specs.Crossing.{crossingRefusal}
 use Rattle.sheet.specs.Answers.{objectNumbers}
 use Rattle.sheet.specs.Lists.{firstRefusal, listRefusal}
@@ -25,6 +26,7 @@ use Rattle.refusals.specs.Calls.{sideRefusalIn}
 pub data Met (n : ℕ) : Type 0 where
   by-crossing : (a b : Object) → crossingRefusal a b ≡ pos n → Met n
   by-turn : (p q s : Point) → turnRefusal p q s ≡ pos n → Met n
+  by-circle : (p q s u : Point) → circleRefusal p q s u ≡ pos n → Met n
   by-rows : (l : List ℤ) (i : ℕ) → oneRefusal l i ≡ pos n → Met n
   by-reading : (bytes : List ℕ) (lent : List ℤ) → readAnswer (readDrawing bytes) lent .refusal ≡ pos n → Met n
 
@@ -39,7 +41,7 @@ abbrev origin : Point
 origin = at (pos 0) (pos 0)
 
 pub each-met : EachMet refusals
-unfolding sgn steps gcd gcdOf pairRefusal sideRefusal objectRefusal standard narrow frame isPoint pointRefusal turnRefusal crossingRefusal firstRefusal listRefusal readGroups readCoordinate readPoint readSide readTo readPair readShape readObject readObjects readCount readDrawing readAnswer
+unfolding sgn steps gcd gcdOf pairRefusal sideRefusal objectRefusal standard narrow frame isPoint pointRefusal turnRefusal isGiven givenRefusal circleRefusal crossingRefusal firstRefusal listRefusal readGroups readCoordinate readPoint readSide readTo readPair readShape readObject readObjects readCount readDrawing readAnswer
 each-met =
     more (by-crossing (object (pos 5) (pos 0) (pos 0) (pos 1) (pos 1)) fine refl)
     (more (by-crossing fine (segment (pos 0) (pos 0) (pos 2001) (pos 1)) refl)
@@ -53,7 +55,8 @@ each-met =
     (more (by-reading (1 ∷ 4 ∷ 1 ∷ []) [] refl)
     (more (by-rows (replicate 2565 (pos 0)) 0 refl)
     (more (by-rows (objectNumbers fine) 1 refl)
-    (more (by-rows (pos 4 ∷ []) 0 refl) none))))))))))))
+    (more (by-rows (pos 4 ∷ []) 0 refl)
+    (more (by-circle (at (pos 2001) (pos 0)) origin origin origin refl) none)))))))))))))
 
 pub record WorkedSide : Type 0 where
   -- "-1, 0, 1, or 100 plus the refusal"

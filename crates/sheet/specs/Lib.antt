@@ -5,6 +5,7 @@ pub mod RefusalTable
 pub mod Points
 pub mod Ends
 pub mod Signs
+pub mod Circle
 pub mod Lists
 pub mod Lent
 pub mod Crossing
@@ -19,6 +20,8 @@ pub mod SignsLaws
 pub mod ReversedLaws
 pub mod InsideLaws
 pub mod AcceptsLaws
+pub mod CircleLaws
+pub mod Angles
 pub mod RefusalTableLaws
 pub mod OnLine
 pub mod CrossingLaws
@@ -30,3 +33,4 @@ pub mod WorkedPoints
 pub mod WorkedRefusals
 pub mod WorkedAnswers
 pub mod WorkedReach
+pub mod WorkedCircle

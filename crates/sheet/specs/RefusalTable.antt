@@ -19,7 +19,9 @@ refusals =
     -- the lent list or byte buffer is too short for the result; more than 512 objects
     ∷ 10 ∷ 11
     -- object index below 0 or not below the count; list length not a multiple of five
-    ∷ 13 ∷ 14 ∷ []
+    ∷ 13 ∷ 14
+    -- side of circle: one of the first three is no given point, or the fourth is a standard point that is none
+    ∷ 21 ∷ []
 
 abbrev pub among : ℕ → List ℕ → Bool
 among n [] = false

@@ -3,13 +3,13 @@
 --   one-among                 one of numbers that are all among others is one of those
 --   not-one                   no other number is
 --   known-or, known-first     of several checks in turn, each of the table or 0, so is the first that finds something
---   known-pair, known-side, known-object, known-point, known-order, known-turn, known-side-sign, known-crossing, known-list, known-index,
---   known-room                what the definitions refuse by is of the table
+--   known-pair, known-side, known-object, known-point, known-order, known-turn, known-side-sign, known-circle, known-crossing,
+--   known-list, known-index, known-room                what the definitions refuse by is of the table
 --   refusal-in                what an answer refuses by
 -- Assumes nothing.
 use mathlib.Core.Path.{_≡_, refl, sym, ap, _∙_}
 use mathlib.Core.Logic.{_⊎_, inl, inr, ⊎-elim}
-use mathlib.Core.Bool.{Bool, true, false, cond, _&&_, true≢false}
+use mathlib.Core.Bool.{Bool, true, false, cond, not, _&&_, _||_, true≢false}
 use mathlib.Core.List.{List, [], _∷_}
 use Prim.Native.Nat.{ℕ, zero, suc, _%_}
 use borrow.Author.Tests.{eqb-true}
@@ -24,8 +24,9 @@ use Rattle.sheet.specs.Limits.{most}
 use Rattle.sheet.specs.Flags.{both, either}
 use Rattle.sheet.specs.Refusal.{outside, anyBeyond, equal, noSide, pairRefusal, sideRefusal, objectRefusal}
 use Rattle.sheet.specs.RefusalTable.{among, OneOf, Known}
-use Rattle.sheet.specs.Points.{isPoint, narrow, pointRefusal}
+use Rattle.sheet.specs.Points.{standard, isPoint, narrow, pointRefusal}
 use Rattle.sheet.specs.Signs.{orElse, orderRefusal, wideRefusal, turnRefusal, sideSignRefusal}
+use Rattle.sheet.specs.Circle.{isGiven, givenRefusal, circleRefusal}
 use Rattle.sheet.specs.Crossing.{crossingRefusal}
 use Rattle.sheet.specs.Answers.{answer, refusalIn}
 use Rattle.sheet.specs.Lists.{width, countOf, objectAt, firstRefusal, listRefusal, indexRefusal}
@@ -104,6 +105,15 @@ known-turn p q s =
 pub known-side-sign : (o : Object) (s : Point) → Known (sideSignRefusal o s)
 unfolding sideSignRefusal
 known-side-sign o s = known-or (objectRefusal o) (pointRefusal s) (known-object o) (known-point s)
+
+pub known-circle : (p q s u : Point) → Known (circleRefusal p q s u)
+unfolding circleRefusal givenRefusal
+known-circle p q s u =
+    known-or (pointRefusal p) _ (known-point p)
+    (known-or (pointRefusal q) _ (known-point q)
+    (known-or (pointRefusal s) _ (known-point s)
+    (known-or (pointRefusal u) (givenRefusal p q s u) (known-point u)
+    (cond-by Known (isGiven p && isGiven q && isGiven s && (isGiven u || not (standard u))) (λ e. one-of 0 refl) (λ e. one-of 21 refl)))))
 
 pub known-crossing : (a b : Object) → Known (crossingRefusal a b)
 unfolding crossingRefusal

@@ -77,10 +77,10 @@ pub record WorkedRefusals : Type 0 where
       (crossingRefusal noKind tooFar ≡ pos 1) × (crossingRefusal tooFar noKind ≡ pos 2) × (crossingRefusal onePlace noSide ≡ pos 3)
       × (crossingRefusal noSide onePlace ≡ pos 4)
   then-the-second : (crossingRefusal fine noSide ≡ pos 4) × (crossingRefusal noSide fine ≡ pos 4) × (crossingRefusal fine fine ≡ pos 0)
-  -- "Numbers that say no": of 0, 1, .., 15 those from 1 to 14; and of 12 "The number is not used again" (document 02)
+  -- "Numbers that say no": of 0, 1, .., 22 those from 1 to 14; of 12 "The number is not used again"; and 21 (document 02)
   numbers-that-say-no :
-      map (λ n. among n refusals) (0 ∷ 1 ∷ 2 ∷ 3 ∷ 4 ∷ 5 ∷ 6 ∷ 7 ∷ 8 ∷ 9 ∷ 10 ∷ 11 ∷ 12 ∷ 13 ∷ 14 ∷ 15 ∷ [])
-      ≡ false ∷ (replicate 11 true ++ (false ∷ true ∷ true ∷ false ∷ []))
+      map (λ n. among n refusals) (0 ∷ 1 ∷ 2 ∷ 3 ∷ 4 ∷ 5 ∷ 6 ∷ 7 ∷ 8 ∷ 9 ∷ 10 ∷ 11 ∷ 12 ∷ 13 ∷ 14 ∷ 15 ∷ 16 ∷ 17 ∷ 18 ∷ 19 ∷ 20 ∷ 21 ∷ 22 ∷ [])
+      ≡ false ∷ (replicate 11 true ++ (false ∷ true ∷ true ∷ (replicate 6 false ++ (true ∷ false ∷ []))))
   -- "14: list length not a multiple of five". "11: more than 512 objects": 2,565 numbers are 513 objects, 2,560 are 512
   list-taken : (listRefusal [] ≡ pos 0) × (listRefusal (both fine fine) ≡ pos 0)
   no-multiple-of-five : (listRefusal (zeros 1) ≡ pos 14) × (listRefusal (objectNumbers fine ++ zeros 4) ≡ pos 14)

@@ -9,6 +9,7 @@ use Rattle.spot.proofs.silvanelga_spot_ends.Reads as spot-ends
 use Rattle.spot.proofs.silvanelga_spot_order.Reads as spot-order
 use Rattle.spot.proofs.silvanelga_spot_side.Reads as spot-side
 use Rattle.spot.proofs.silvanelga_spot_cross.Reads as spot-cross
+use Rattle.spot.proofs.silvanelga_spot_circle.Reads as spot-circle
 
 pub spot-ends-answer :
     (κs : Lfts 0) (o : Object) (r s : TwoEnds) → spot-ends.Post κs (o, tt) r (o, tt) → spot-ends.Post κs (o, tt) s (o, tt) → r ≡ s
@@ -28,3 +29,8 @@ pub spot-cross-answer :
     (κs : Lfts 0) (a b : Object) (r s : Answer)
     → spot-cross.Post κs (a, (b, tt)) r (a, (b, tt)) → spot-cross.Post κs (a, (b, tt)) s (a, (b, tt)) → r ≡ s
 spot-cross-answer κs a b r s p q = p ∙ sym q
+
+pub spot-circle-answer :
+    (κs : Lfts 0) (a b c d : Point) (r s : Answer)
+    → spot-circle.Post κs (a, (b, (c, (d, tt)))) r (a, (b, (c, (d, tt)))) → spot-circle.Post κs (a, (b, (c, (d, tt)))) s (a, (b, (c, (d, tt)))) → r ≡ s
+spot-circle-answer κs a b c d r s p q = p ∙ sym q

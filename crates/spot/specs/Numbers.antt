@@ -9,6 +9,7 @@ use Rattle.sheet.specs.Refusal.{objectRefusal}
 use Rattle.sheet.specs.Points.{numbers}
 use Rattle.sheet.specs.Ends.{firstEnd, lastEnd}
 use Rattle.sheet.specs.Signs.{order, sideSign, orderRefusal, sideSignRefusal}
+use Rattle.sheet.specs.Circle.{sideOfCircle, circleRefusal}
 use Rattle.sheet.specs.Crossing.{crossingOf, crossingRefusal}
 use Rattle.sheet.specs.Lists.{number}
 use Rattle.sheet.specs.Answers.{answer, meetingNumbers}
@@ -36,3 +37,6 @@ sideShown o s = answerOf (answer (sideSignRefusal o s) (sideSign o s ∷ []))
 
 abbrev pub crossingShown : Object → Object → Answer
 crossingShown a b = answerOf (answer (crossingRefusal a b) (meetingNumbers (crossingOf a b)))
+
+abbrev pub circleShown : Point → Point → Point → Point → Answer
+circleShown p q s u = answerOf (answer (circleRefusal p q s u) (sideOfCircle p q s u ∷ []))

@@ -9,11 +9,12 @@ use Rattle.sheet.specs.Refusal.{pairRefusal, sideRefusal, objectRefusal}
 use Rattle.sheet.specs.Points.{divided, standard, narrow, frame, isPoint, pointRefusal}
 use Rattle.sheet.specs.Ends.{farRaw, farEnd, firstEnd, lastEnd}
 use Rattle.sheet.specs.Signs.{order, turnPoly, turn, sideSign, orderRefusal, sideSignRefusal}
+use Rattle.sheet.specs.Circle.{circlePoly, sideOfCircle, isGiven, givenRefusal, circleRefusal}
 use Rattle.sheet.specs.Crossing.{pieces, withSide, withPiece, meeting, crossingOf, crossingRefusal}
 use Rattle.sheet.specs.Cases.{minus, object, segment, ray, line, side, point, at}
 use Rattle.spot.specs.declared.TwoEnds.{TwoEnds}
 use Rattle.spot.specs.declared.Answer.{Answer}
-use Rattle.spot.specs.Numbers.{endsShown, orderShown, sideShown, crossingShown}
+use Rattle.spot.specs.Numbers.{endsShown, orderShown, sideShown, crossingShown, circleShown}
 
 abbrev nought : Point
 nought = point (pos 0) (pos 0) (pos 0) (pos 0) (pos 0)
@@ -49,9 +50,13 @@ pub record Worked : Type 0 where
   point-of-two : crossingShown (ray (pos 0) (pos 0) (pos 1) (pos 0)) (ray (pos 0) (pos 0) (minus 1) (pos 0)) ≡ once (at (pos 0) (pos 0))
   many : crossingShown (side (pos 1)) (side (pos 1)) ≡ plain (pos 2)
   no-crossing : crossingShown (side (pos 1)) (object (pos 5) (pos 0) (pos 0) (pos 0) (pos 0)) ≡ refused (pos 1)
+  -- where the first three turn left, 1 outside and -1 inside; 21 where one of them is no given point
+  outside : circleShown (at (pos 0) (pos 0)) (at (pos 2) (pos 0)) (at (pos 0) (pos 2)) (at (pos 3) (pos 3)) ≡ plain (pos 1)
+  inside : circleShown (at (pos 0) (pos 0)) (at (pos 2) (pos 0)) (at (pos 0) (pos 2)) (at (pos 1) (pos 1)) ≡ plain (minus 1)
+  no-circle : circleShown (at (pos 2001) (pos 0)) (at (pos 2) (pos 0)) (at (pos 0) (pos 2)) (at (pos 1) (pos 1)) ≡ refused (pos 21)
 
 pub worked : Worked
-unfolding sgn steps gcd gcdOf sideOf figure pairRefusal sideRefusal objectRefusal divided standard narrow frame isPoint pointRefusal farRaw farEnd firstEnd lastEnd order turnPoly turn sideSign orderRefusal sideSignRefusal pieces withSide withPiece meeting crossingOf crossingRefusal
+unfolding sgn steps gcd gcdOf sideOf figure pairRefusal sideRefusal objectRefusal divided standard narrow frame isPoint pointRefusal farRaw farEnd firstEnd lastEnd order turnPoly turn sideSign orderRefusal sideSignRefusal pieces withSide withPiece meeting crossingOf crossingRefusal circlePoly sideOfCircle isGiven givenRefusal circleRefusal
 worked = record {
   ends = refl;
   no-ends = refl;
@@ -64,4 +69,7 @@ worked = record {
   point-of-two = refl;
   many = refl;
   no-crossing = refl;
+  outside = refl;
+  inside = refl;
+  no-circle = refl;
 }

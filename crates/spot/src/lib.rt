@@ -1,10 +1,11 @@
-// Calls for a C program that checks the kernel by what its answers mean (tests/spot_check.c): ends, order, side and crossing.
+// Calls for a C program that checks the kernel by what its answers mean (tests/spot_check.c): ends, order, side and crossing. And the
+// side of circle, for tests/circle.c and bench/.
 mod numbers;
 
 use sheet::Object;
 use sheet::Point;
 ghost use mathlib.Core.Path.{_≡_};
-ghost use Rattle.spot.specs.Numbers.{endsShown, orderShown, sideShown, crossingShown};
+ghost use Rattle.spot.specs.Numbers.{endsShown, orderShown, sideShown, crossingShown, circleShown};
 
 // The two ends of an object: the refusal or 0, and the ends in its direction.
 #[repr(C)]
@@ -48,4 +49,11 @@ pub extern "C" fn silvanelga_spot_cross(a: Object, b: Object) -> Answer
     ensures { λ r. ⌜ r ≡ crossingShown a b ⌝ }
 {
     numbers::of_crossing(kernel::crossing::cross(a, b))
+}
+
+#[no_mangle]
+pub extern "C" fn silvanelga_spot_circle(p: Point, q: Point, s: Point, u: Point) -> Answer
+    ensures { λ r. ⌜ r ≡ circleShown p q s u ⌝ }
+{
+    numbers::of_sign(kernel::circle::side_of_circle(p, q, s, u))
 }

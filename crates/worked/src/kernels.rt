@@ -18,7 +18,7 @@ pub fn pt(mx: i64, nx: i64, my: i64, ny: i64, w: i64) -> Point {
     Point { mx, nx, my, ny, w }
 }
 
-fn given(x: i64, y: i64) -> Point {
+pub fn given(x: i64, y: i64) -> Point {
     pt(0, x, 0, y, 1)
 }
 

@@ -1,4 +1,5 @@
 // Document 01's cases, run: each line names a case and says what the calls answer. The file stdout has what they should.
+mod circles;
 mod drawings;
 mod kernels;
 mod listings;
@@ -19,6 +20,9 @@ fn main() {
     kernels::crossings();
     kernels::on_one_line();
     kernels::shared_points();
+    circles::sides();
+    circles::on_one_line();
+    circles::refusals();
     drawings::reading();
     drawings::groups();
     drawings::short_drawings();
