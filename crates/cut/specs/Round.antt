@@ -39,6 +39,11 @@ module _ (C A : Spot) where
     equal = reify (C .X ∷ C .Y ∷ C .W ∷ A .X ∷ A .Y ∷ A .W ∷ []) (λ ρ v. simp (reading, v 0, v 1, v 2, v 3, v 4, v 5) (solve _ _ _ tt));
   }
 
+minor-is : (P Q S : Spot) → minorZ (over P) (over Q) (over S) ≡ detOf P Q S *ℤ (P .W *ℤ (Q .W *ℤ S .W))
+minor-is P Q S =
+    reify (P .X ∷ P .Y ∷ P .W ∷ Q .X ∷ Q .Y ∷ Q .W ∷ S .X ∷ S .Y ∷ S .W ∷ [])
+    (λ ρ v. simp (reading, v 0, v 1, v 2, v 3, v 4, v 5, v 6, v 7, v 8) (solve _ _ _ tt))
+
 -- ---- the determinant with the distances from C for its last row: it is the same, as the rows 1, x, y say
 
 module _ (C P Q S U : Spot) where
@@ -57,11 +62,6 @@ module _ (C P Q S U : Spot) where
   first-row-twice =
       reify (P .X ∷ P .Y ∷ P .W ∷ Q .X ∷ Q .Y ∷ Q .W ∷ S .X ∷ S .Y ∷ S .W ∷ U .X ∷ U .Y ∷ U .W ∷ C .W ∷ [])
       (λ ρ v. simp (reading, val-pos ρ, v 0, v 1, v 2, v 3, v 4, v 5, v 6, v 7, v 8, v 9, v 10, v 11, v 12) (solve _ _ _ tt))
-
-  minor-is : minorZ (over P) (over Q) (over S) ≡ detOf P Q S *ℤ (P .W *ℤ (Q .W *ℤ S .W))
-  minor-is =
-      reify (P .X ∷ P .Y ∷ P .W ∷ Q .X ∷ Q .Y ∷ Q .W ∷ S .X ∷ S .Y ∷ S .W ∷ [])
-      (λ ρ v. simp (reading, v 0, v 1, v 2, v 3, v 4, v 5, v 6, v 7, v 8) (solve _ _ _ tt))
 
 -- n and d: the distances from C over their denominators, of P, Q, S and U; m: the minors without U, S, Q and P
 module _ (c z n1 d1 n2 d2 n3 d3 n4 d4 m4 m3 m2 m1 : ℤ) where
@@ -85,7 +85,8 @@ by-turn C P Q S U h =
     let d = pp-mul (pp-mul (C .above) (P .above)) (pp-mul (C .above) (P .above)) in
     determinant-sign P Q S U
     ∙ sym (sgn-mul-pos z (C .W *ℤ C .W *ℤ farnessOver C P) (pp-mul c d))
-    ∙ ap sgn (equal-distances (C .W *ℤ C .W) z (farness C P) (farnessOver C P) (farness C Q) (farnessOver C Q) (farness C S) (farnessOver C S) (farness C U) (farnessOver C U)
+    ∙ ap sgn (equal-distances (C .W *ℤ C .W) z (farness C P) (farnessOver C P) (farness C Q) (farnessOver C Q)
+    (farness C S) (farnessOver C S) (farness C U) (farnessOver C U)
     m (minorZ (over P) (over Q) (over U)) (minorZ (over P) (over S) (over U)) (minorZ (over Q) (over S) (over U))
     (by-distances C P Q S U) (first-row-twice C P Q S U) (as-whole Q (h .second-as-far)) (as-whole S (h .third-as-far)))
     ∙ ap sgn (*ℤ-comm more m) ∙ sgn-mul m more
@@ -98,7 +99,7 @@ by-turn C P Q S U h =
 
     turned : sgn (minorZ (over P) (over Q) (over S)) ≡ signOf (determinant (placeOf P) (placeOf Q) (placeOf S))
     turned =
-        ap sgn (minor-is C P Q S U) ∙ sgn-mul-pos (detOf P Q S) (P .W *ℤ (Q .W *ℤ S .W)) (pp-mul (P .above) (pp-mul (Q .above) (S .above)))
+        ap sgn (minor-is P Q S) ∙ sgn-mul-pos (detOf P Q S) (P .W *ℤ (Q .W *ℤ S .W)) (pp-mul (P .above) (pp-mul (Q .above) (S .above)))
         ∙ sym (determinant-is P Q S)
 
 -- ---- two fractions compared
