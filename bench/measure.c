@@ -1,6 +1,5 @@
 /* Times the proved code beside plain C of the same algorithms, in one process and one run. Prints nanoseconds and the ratio. */
-#include "plain.h"
-#include "race.h"
+#include "sheets.h"
 #include <string.h>
 
 /* each answers its refusal, 0 for none */
@@ -8,35 +7,10 @@ int64_t silvanelga_measure_list(const int64_t *list, size_t length, int64_t *row
 int64_t silvanelga_measure_read(const uint8_t *bytes, size_t length, int64_t *list, size_t room);
 int64_t silvanelga_measure_write(const int64_t *list, size_t length, uint8_t *bytes, size_t room);
 
-enum { NUMBERS = WIDTH * MOST, PAIRS = MOST * (MOST - 1) / 2, BYTES = 2 + 9 * MOST, CGAL_TURNS = 7 };
+enum { BYTES = 2 + 9 * MOST, CGAL_TURNS = 7 };
 
 static int64_t list[NUMBERS], back[NUMBERS], rows[ROW * PAIRS], other[ROW * PAIRS];
 static uint8_t bytes[BYTES], again[BYTES];
-
-static void pair(int64_t *o, int64_t kind, int64_t reach)
-{
-    o[0] = kind;
-    do {
-        for (int k = 1; k < WIDTH; k++) o[k] = pick(-reach, reach);
-    } while (o[1] == o[3] && o[2] == o[4]);
-}
-
-static void uniform(int64_t *o, int i) { (void)i; pair(o, pick(1, 3), REACH); }
-static void lines(int64_t *o, int i) { (void)i; pair(o, 3, REACH); }
-static void grid(int64_t *o, int i) { (void)i; pair(o, pick(1, 3), 3); }
-static void sides(int64_t *o, int i)
-{
-    if (i % 4 != 0) { uniform(o, i); return; }
-    o[0] = 4, o[1] = pick(1, 4), o[2] = o[3] = o[4] = 0;
-}
-static void chains(int64_t *o, int i)
-{
-    static int64_t x, y;
-    if (i % 32 == 0) x = pick(-1500, 1500), y = pick(-1500, 1500);
-    o[0] = 1, o[1] = x, o[2] = y;
-    do x = o[1] + pick(-9, 9), y = o[2] + pick(-9, 9); while (x == o[1] && y == o[2]);
-    o[3] = x, o[4] = y;
-}
 
 #ifdef WITH_CGAL
 int64_t cgal_list(const int64_t *list, size_t length);
@@ -61,18 +35,16 @@ static void beside_cgal(int64_t count, double ours) { (void)count, (void)ours; }
 
 int main(void)
 {
-    static const struct { const char *name; void (*make)(int64_t *, int); } kinds[] = {
-        {"uniform", uniform}, {"lines only", lines}, {"grid", grid}, {"chains", chains}, {"with sides", sides}};
     printf("%-12s %9s %12s %12s %7s%s\n", "listing", "rows", "ns a pair", "plain C", "ratio", CGAL_COLUMNS);
-    for (size_t k = 0; k < sizeof kinds / sizeof *kinds; k++) {
+    for (int k = 0; k < SHEETS; k++) {
         double ours = 0, plain = 0;
-        for (int i = 0; i < MOST; i++) kinds[k].make(list + WIDTH * i, i);
+        make_sheet(k, list);
         memset(rows, 1, sizeof rows), memset(other, 1, sizeof other);
         int64_t n = plain_list(list, NUMBERS, other, ROW * PAIRS);
         if (n < 0 || silvanelga_measure_list(list, NUMBERS, rows, ROW * PAIRS) != 0) fail("a sheet was refused");
         if (memcmp(rows, other, sizeof rows) != 0) fail("the two listings differ");
         RACE(silvanelga_measure_list(list, NUMBERS, rows, ROW * PAIRS), plain_list(list, NUMBERS, other, ROW * PAIRS), ours, plain)
-        printf("%-12s %9lld %12.2f %12.2f %7.2f", kinds[k].name, (long long)n, ours / PAIRS, plain / PAIRS, ours / plain);
+        printf("%-12s %9lld %12.2f %12.2f %7.2f", sheets[k].name, (long long)n, ours / PAIRS, plain / PAIRS, ours / plain);
         beside_cgal(n, ours);
         printf("\n");
     }

@@ -1,0 +1,43 @@
+/* The sheets that listings are timed on, of as many objects as a sheet may have. */
+#ifndef SHEETS_H
+#define SHEETS_H
+#include "plain.h"
+#include "race.h"
+
+enum { NUMBERS = WIDTH * MOST, PAIRS = MOST * (MOST - 1) / 2 };
+
+static void pair(int64_t *o, int64_t kind, int64_t reach)
+{
+    o[0] = kind;
+    do {
+        for (int k = 1; k < WIDTH; k++) o[k] = pick(-reach, reach);
+    } while (o[1] == o[3] && o[2] == o[4]);
+}
+
+static void uniform(int64_t *o, int i) { (void)i; pair(o, pick(1, 3), REACH); }
+static void lines(int64_t *o, int i) { (void)i; pair(o, 3, REACH); }
+static void grid(int64_t *o, int i) { (void)i; pair(o, pick(1, 3), 3); }
+static void sides(int64_t *o, int i)
+{
+    if (i % 4 != 0) { uniform(o, i); return; }
+    o[0] = 4, o[1] = pick(1, 4), o[2] = o[3] = o[4] = 0;
+}
+static void chains(int64_t *o, int i)
+{
+    static int64_t x, y;
+    if (i % 32 == 0) x = pick(-1500, 1500), y = pick(-1500, 1500);
+    o[0] = 1, o[1] = x, o[2] = y;
+    do x = o[1] + pick(-9, 9), y = o[2] + pick(-9, 9); while (x == o[1] && y == o[2]);
+    o[3] = x, o[4] = y;
+}
+
+static const struct { const char *name; void (*make)(int64_t *, int); } sheets[] = {
+    {"uniform", uniform}, {"lines only", lines}, {"grid", grid}, {"chains", chains}, {"with sides", sides}};
+enum { SHEETS = sizeof sheets / sizeof *sheets };
+
+static void make_sheet(int k, int64_t *list)
+{
+    for (int i = 0; i < MOST; i++) sheets[k].make(list + WIDTH * i, i);
+}
+
+#endif
