@@ -1,18 +1,21 @@
 -- The laws of greatest common divisors. To cite:
---   gcd-zero, gcd-step           a step of the remainders keeps it
+--   gcd-zero, gcd-one            where the remainders end
+--   gcd-step, gcd-lack           a step of the remainders keeps it
 --   gcd-is, gcdOf-is             what is found is one
 --   gcd-unique, gcdOf-unique     there is only one
---   gcdOf-fold                   of five numbers, folded
+--   gcdOf-fold                   of five numbers, folded from any one of them on; EitherWay
 --   gcdOf-times                  of a list times c it is |c| times
 --   gcdOf-above                  it is above 0 where a number that it divides is not 0
+--   quot-one                     divided by 1 a number stays
 --   over, over-one, over-back    divided by it the list has divisor 1; times it the list is back
 --   same-numbers                 two lists of divisor 1 that are proportional are equal
 -- Assumes nothing.
 use mathlib.Core.Path.{_≡_, refl, sym, _∙_, ap, ap₂, subst}
+use mathlib.Core.Logic.{_⊎_, inl, inr}
 use mathlib.Core.Bool.{Bool, true, false}
 use mathlib.Core.List.{List, [], _∷_}
-use Prim.Native.Nat.{ℕ, zero, suc, _*_, _/_, _%_, _∣_, _<_}
-use native.Mathlib.Nat.{dvd-refl, dvd-zero, dvd-trans, dvd-mod-iff, dvd-antisymm, dvd-mul-right, mul-dvd-mul-left, dvd-of-mul-dvd-mul-left, mod-lt, div-mul-cancel, eq-of-mul-eq-mul-left, mul-comm, mul-one, eq-zero-of-zero-dvd}
+use Prim.Native.Nat.{ℕ, zero, suc, _+_, _-_, _*_, _/_, _%_, _∣_, _<_}
+use native.Mathlib.Nat.{dvd-refl, dvd-zero, one-dvd, dvd-trans, dvd-mod-iff, dvd-add-iff-right, dvd-add-iff-left, dvd-antisymm, dvd-mul-right, mul-dvd-mul-left, dvd-of-mul-dvd-mul-left, mod-lt, div-mul-cancel, div-one, eq-of-mul-eq-mul-left, mul-comm, mul-one, eq-zero-of-zero-dvd}
 use native.Mathlib.Omega.{arith}
 use lib.Dec.{eqb}
 use lib.IntN.{ℤ, pos, negsuc, negℤ, natAbs, _*ℤ_}
@@ -31,12 +34,26 @@ use Rattle.whole.specs.Divisor.{IsGcd, DividesAll, none, _also_, IsGcdOf
 pub gcd-zero : (a : ℕ) → IsGcd a 0 a
 gcd-zero a = record { left = dvd-refl a; right = dvd-zero a; most = λ d p q. p }
 
+pub gcd-one : (a : ℕ) → IsGcd a 1 1
+gcd-one a = record { left = one-dvd a; right = dvd-refl 1; most = λ d p q. q }
+
 pub gcd-step : {a b g : ℕ} → IsGcd b (a % b) g → IsGcd a b g
 gcd-step {a} {b} {g} h = record {
   left = dvd-mod-iff g {m = a} {n = b} (h .left) .0 (h .right);
   right = h .left;
   most = λ d p q. h .most d q (dvd-mod-iff d {m = a} {n = b} q .1 p);
 }
+
+-- what a lacks to the next multiple of b serves as well as what it has above the last one
+pub gcd-lack : {a b g : ℕ} → 0 < b → IsGcd b (b - a % b) g → IsGcd a b g
+gcd-lack {a} {b} {g} h p = gcd-step (record {
+  left = p .left;
+  right = dvd-add-iff-right g {m = b - a % b} {n = a % b} (p .right) .1 (in-both g (p .left));
+  most = λ d q r. p .most d q (dvd-add-iff-left d {m = b - a % b} {n = a % b} r .1 (in-both d q));
+})
+  where
+    in-both : (d : ℕ) → d ∣ b → d ∣ b - a % b + a % b
+    in-both d q = let l = mod-lt a h in subst (λ (x : ℕ). d ∣ x) (omega arith) q
 
 steps-is : (n a b : ℕ) → b < n → IsGcd a b (steps n a b)
 unfolding steps
@@ -87,11 +104,45 @@ gcdOf-unique {zs} {g} {h} p q = dvd-antisymm (q .most g (p .each)) (p .most h (q
 pub gcdOf-single : (z : ℤ) → IsGcdOf (z ∷ []) (natAbs z)
 gcdOf-single z = record { each = dvd-refl (natAbs z) also none; most = λ d ds. all-head ds }
 
--- five numbers, folded from the last
+-- s and o are a and b, as they are or changed over
+abbrev pub EitherWay : ℕ → ℕ → ℕ → ℕ → Type 0
+EitherWay a b s o = ((s ≡ a) × (o ≡ b)) ⊎ ((s ≡ b) × (o ≡ a))
+
+to-either : (k : ℕ) {a b s o : ℕ} → EitherWay a b s o → k ∣ a → k ∣ b → (k ∣ s) × (k ∣ o)
+to-either k (inl e) p q = (subst (λ (n : ℕ). k ∣ n) (sym (e .0)) p, subst (λ (n : ℕ). k ∣ n) (sym (e .1)) q)
+to-either k (inr e) p q = (subst (λ (n : ℕ). k ∣ n) (sym (e .0)) q, subst (λ (n : ℕ). k ∣ n) (sym (e .1)) p)
+
+of-either : (k : ℕ) {a b s o : ℕ} → EitherWay a b s o → k ∣ s → k ∣ o → (k ∣ a) × (k ∣ b)
+of-either k (inl e) p q = (subst (λ (n : ℕ). k ∣ n) (e .0) p, subst (λ (n : ℕ). k ∣ n) (e .1) q)
+of-either k (inr e) p q = (subst (λ (n : ℕ). k ∣ n) (e .1) q, subst (λ (n : ℕ). k ∣ n) (e .0) p)
+
+-- five numbers: of two of them one goes on and the other is kept, and so with each further number, so that any of the five may be the one
+-- that is left; folded from that one on, over those that were kept
 pub gcdOf-fold :
-    (a b c d e : ℤ) {g h i j : ℕ} → IsGcd (natAbs d) (natAbs e) g → IsGcd (natAbs c) g h → IsGcd (natAbs b) h i
-    → IsGcd (natAbs a) i j → j ≡ gcdOf (a ∷ b ∷ c ∷ d ∷ e ∷ [])
-gcdOf-fold a b c d e p q r s = gcdOf-unique (more (more (more (more (gcdOf-single e) p) q) r) s) (gcdOf-is (a ∷ b ∷ c ∷ d ∷ e ∷ []))
+    (a b c d e : ℤ) {s t u v h i j k f g l r : ℕ}
+    → EitherWay (natAbs a) (natAbs b) s h → EitherWay s (natAbs c) t i → EitherWay t (natAbs d) u j → EitherWay u (natAbs e) v k
+    → IsGcd k v f → IsGcd j f g → IsGcd i g l → IsGcd h l r → r ≡ gcdOf (a ∷ b ∷ c ∷ d ∷ e ∷ [])
+gcdOf-fold a b c d e {v = v} {h = h} {i = i} {j = j} {k = k} {r = r} w x y z o p q m =
+    gcdOf-unique (record { each = from r (kept .each); most = λ n ns. kept .most n (to n ns) }) (gcdOf-is (a ∷ b ∷ c ∷ d ∷ e ∷ []))
+  where
+    kept : IsGcdOf (pos h ∷ pos i ∷ pos j ∷ pos k ∷ pos v ∷ []) r
+    kept = more (more (more (more (gcdOf-single (pos v)) o) p) q) m
+
+    to : (n : ℕ) → DividesAll n (a ∷ b ∷ c ∷ d ∷ e ∷ []) → DividesAll n (pos h ∷ pos i ∷ pos j ∷ pos k ∷ pos v ∷ [])
+    to n (na also (nb also (nc also (nd also (ne also none))))) =
+        let one = to-either n w na nb in
+        let two = to-either n x (one .0) nc in
+        let three = to-either n y (two .0) nd in
+        let four = to-either n z (three .0) ne in
+        one .1 also two .1 also three .1 also four .1 also four .0 also none
+
+    from : (n : ℕ) → DividesAll n (pos h ∷ pos i ∷ pos j ∷ pos k ∷ pos v ∷ []) → DividesAll n (a ∷ b ∷ c ∷ d ∷ e ∷ [])
+    from n (nh also (ni also (nj also (nk also (nv also none))))) =
+        let four = of-either n z nv nk in
+        let three = of-either n y (four .0) nj in
+        let two = of-either n x (three .0) ni in
+        let one = of-either n w (two .0) nh in
+        one .0 also one .1 also two .1 also three .1 also four .1 also none
 
 -- ---- a factor
 
@@ -130,6 +181,10 @@ gcdOf-times c (z ∷ zs) =
 abbrev pub over : ℕ → List ℤ → List ℤ
 over c [] = []
 over c (z ∷ zs) = quotZ z (pos c) ∷ over c zs
+
+pub quot-one : (z : ℤ) → quotZ z (pos 1) ≡ z
+quot-one (pos n) = ap pos (div-one n)
+quot-one (negsuc n) = ap (λ (x : ℕ). negℤ (pos x)) (div-one (suc n))
 
 quot-back : (z : ℤ) (c : ℕ) → c ∣ natAbs z → pos c *ℤ quotZ z (pos c) ≡ z
 quot-back (pos n) c d = ap pos (mul-comm c (n / c) ∙ div-mul-cancel c {m = n} d)

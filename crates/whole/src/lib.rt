@@ -1,5 +1,7 @@
 // Whole numbers: their sign, their size and their greatest common divisor. Nothing here knows of sheets.
 ghost use mathlib.Core.Path.{_≡_};
+ghost use mathlib.Core.Logic.{_⊎_};
+ghost use Prim.Native.Nat.{_≤_};
 ghost use lib.IntN.{natAbs};
 ghost use Rattle.whole.specs.Sign.{sgn};
 ghost use Rattle.whole.specs.Divisor.{IsGcd};
@@ -28,16 +30,32 @@ pub fn size(x: i64) -> u64
     x as u64
 }
 
-// The greatest common divisor by remainders, the second argument falling. Of 0 and 0 it is 0.
+// The smaller of two numbers.
+fn least(a: u64, b: u64) -> u64
+    ensures { λ r. ⌜ (r ≡ a) ⊎ (r ≡ b) ⌝ }
+    ensures { λ r. ⌜ (r ≤ a) × (r ≤ b) ⌝ }
+{
+    if b < a {
+        return b;
+    }
+    a
+}
+
+// The greatest common divisor by remainders, the second argument falling, and stopping as soon as it is 1. Of the remainders of x, what it
+// has above a multiple of y and what it lacks to the next one, the least is at most half of y. Of 0 and 0 it is 0.
 pub fn gcd(a: u64, b: u64) -> u64
     ensures { λ r. ⌜ IsGcd a b r ⌝ }
 {
     let mut x = a;
     let mut y = b;
-    while y != 0 {
+    while 1 < y {
         let rest = x % y;
+        let lack = y - rest;
         x = y;
-        y = rest;
+        y = least(rest, lack);
+    }
+    if y == 1 {
+        return 1;
     }
     x
 }

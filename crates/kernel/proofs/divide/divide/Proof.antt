@@ -1,9 +1,12 @@
-use mathlib.Core.Path.{_≡_, sym, _∙_, ap₂, subst}
+use mathlib.Core.Path.{_≡_, sym, _∙_, ap, ap₂, subst}
 use mathlib.Core.List.{[], _∷_}
 use Prim.Native.Nat.{ℕ, _<_, _≤_}
 use lib.IntN.{ℤ, pos}
 use lib.Signed.{quotZ}
+use mir.Syntax.{w64}
+use mir.Val.{SFits}
 use Rattle.whole.specs.Divisor.{gcdOf}
+use Rattle.whole.specs.DivisorLaws.{quot-one}
 use Rattle.whole.specs.Flat.{back, within-out}
 use Rattle.whole.specs.Bound.{Within}
 use Rattle.whole.specs.Tests.{out, out-is, gave}
@@ -34,30 +37,48 @@ part-gives c h = ap₂ (λ (z : ℤ) (g : ℕ). quotZ z (pos g)) (back h tt) (fo
 divisor-requires : tie.Need-divisor-requires
 divisor-requires c κs = search needs
 
-part-requires : tie.Need-part-requires
-part-requires c κs = part-asks c (c .before .pre .bmx)
-
-part-requires-2 : tie.Need-part-requires-2
-part-requires-2 c κs = let d = c .before in part-asks d (d .before .pre .bnx)
-
-part-requires-3 : tie.Need-part-requires-3
-part-requires-3 c κs = let d = c .before .before in part-asks d (d .before .pre .bmy)
-
-part-requires-4 : tie.Need-part-requires-4
-part-requires-4 c κs = let d = c .before .before .before in part-asks d (d .before .pre .bny)
-
-part-requires-5 : tie.Need-part-requires-5
-part-requires-5 c κs = let d = c .before .before .before .before in part-asks d (d .before .pre .bw)
+-- where the divisor is 1, each number as it came
+kept : (c : tie.After-divisor) {n : ℤ} → c .divisor .result ≡ 1 → SFits w64 n → out n ≡ quotZ n (pos (common (c .before)))
+kept c {n} one f = out-is f ∙ sym (quot-one n) ∙ ap (λ (g : ℕ). quotZ n (pos g)) (sym one ∙ found c)
 
 returns : tie.Need-returns
 unfolding divided
 returns c =
+    let d = c .before in
+    let one = c .if1 .taken in
+    let f = d .before .fits in
+    λ i. record {
+      mx = kept d one (f .mx) i;
+      nx = kept d one (f .nx) i;
+      my = kept d one (f .my) i;
+      ny = kept d one (f .ny) i;
+      w = kept d one (f .w) i;
+    }
+
+part-requires : tie.Need-part-requires
+part-requires c κs = let d = c .before in part-asks d (d .before .pre .bmx)
+
+part-requires-2 : tie.Need-part-requires-2
+part-requires-2 c κs = let d = c .before .before in part-asks d (d .before .pre .bnx)
+
+part-requires-3 : tie.Need-part-requires-3
+part-requires-3 c κs = let d = c .before .before .before in part-asks d (d .before .pre .bmy)
+
+part-requires-4 : tie.Need-part-requires-4
+part-requires-4 c κs = let d = c .before .before .before .before in part-asks d (d .before .pre .bny)
+
+part-requires-5 : tie.Need-part-requires-5
+part-requires-5 c κs = let d = c .before .before .before .before .before in part-asks d (d .before .pre .bw)
+
+returns-2 : tie.Need-returns-2
+unfolding divided
+returns-2 c =
     let mx = c .before .before .before .before .part in
     let nx = c .before .before .before .part2 in
     let my = c .before .before .part3 in
     let ny = c .before .part4 in
     let w = c .part5 in
-    let d = c .before .before .before .before .before in
+    let d = c .before .before .before .before .before .before in
     let h = d .before .pre in
     λ i. record {
       mx = (gave (mx .ok) (mx .ensures) ∙ part-gives d (h .bmx)) i;
@@ -72,9 +93,10 @@ divide-spec =
     tie.close
     (tie.spec
     divisor-requires
+    returns
     part-requires
     part-requires-2
     part-requires-3
     part-requires-4
     part-requires-5
-    returns)
+    returns-2)

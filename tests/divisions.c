@@ -1,0 +1,74 @@
+/* How many divisions the common divisor takes. Standard input: a case a line, `point` with five numbers, which are looked at whether they
+   are a point, or `pair` with two objects, of which is found what they share, and five numbers as they are before dividing. Standard output:
+   for each case how many divisions the library makes, and how many the order of work makes that it had before: from w on to the end, and
+   every number divided. The second is C, and counted in the same way. */
+#include "steps.h"
+#include <inttypes.h>
+#include <stdio.h>
+#include <stdlib.h>
+#include <string.h>
+
+typedef struct { int64_t refusal, number; double values[4]; } shown;
+shown silvanelga_measure_place(int64_t mx, int64_t nx, int64_t my, int64_t ny, int64_t w);
+int64_t silvanelga_measure_list(const int64_t *list, size_t length, int64_t *rows, size_t room);
+
+enum { NUMBERS = 5, OBJECTS = 2, ROW = 8, ONE_POINT = 1 };
+
+static uint64_t size(int64_t n) { return n < 0 ? -(uint64_t)n : (uint64_t)n; }
+
+/* noipa: the compiler is to leave a counted call where it stands */
+__attribute__((noipa)) static uint64_t before_divisor(const int64_t n[NUMBERS])
+{
+    uint64_t x = size(n[NUMBERS - 1]);
+    for (int k = NUMBERS - 2; k >= 0; k--) {
+        uint64_t y = x;
+        x = size(n[k]);
+        while (y != 0) {
+            uint64_t rest = x % y;
+            x = y;
+            y = rest;
+        }
+    }
+    return x;
+}
+
+__attribute__((noipa)) static void before_divided(int64_t n[NUMBERS])
+{
+    int64_t by = (int64_t)before_divisor(n);
+    for (int k = 0; k < NUMBERS; k++) n[k] /= by;
+}
+
+static void read_numbers(int64_t *n, int count)
+{
+    for (int k = 0; k < count; k++)
+        if (scanf("%" SCNd64, &n[k]) != 1) exit(2);
+}
+
+int main(void)
+{
+    char kind[8];
+    count_steps();
+    while (scanf("%7s", kind) == 1) {
+        int64_t n[NUMBERS], list[OBJECTS * NUMBERS], row[ROW] = {0};
+        long library;
+        if (strcmp(kind, "point") == 0) {
+            shown place;
+            uint64_t divisor;
+            read_numbers(n, NUMBERS);
+            COUNTED(place = silvanelga_measure_place(n[0], n[1], n[2], n[3], n[4]));
+            library = divisions;
+            COUNTED(divisor = before_divisor(n));
+            if (place.refusal == 0 && divisor != 1) exit(3);
+        } else {
+            int64_t refusal;
+            read_numbers(list, OBJECTS * NUMBERS);
+            read_numbers(n, NUMBERS);
+            COUNTED(refusal = silvanelga_measure_list(list, OBJECTS * NUMBERS, row, ROW));
+            library = divisions;
+            COUNTED(before_divided(n));
+            if (refusal != 0 || row[2] != ONE_POINT || memcmp(row + 3, n, sizeof n) != 0) exit(3);
+        }
+        printf("%ld %ld\n", library, divisions);
+    }
+    return 0;
+}
