@@ -38,10 +38,16 @@ __attribute__((noipa)) static void before_divided(int64_t n[NUMBERS])
     for (int k = 0; k < NUMBERS; k++) n[k] /= by;
 }
 
+static void fail(const char *what)
+{
+    fprintf(stderr, "divisions: %s\n", what);
+    exit(1);
+}
+
 static void read_numbers(int64_t *n, int count)
 {
     for (int k = 0; k < count; k++)
-        if (scanf("%" SCNd64, &n[k]) != 1) exit(2);
+        if (scanf("%" SCNd64, &n[k]) != 1) fail("a case has too few numbers");
 }
 
 int main(void)
@@ -58,7 +64,7 @@ int main(void)
             COUNTED(place = silvanelga_measure_place(n[0], n[1], n[2], n[3], n[4]));
             library = divisions;
             COUNTED(divisor = before_divisor(n));
-            if (place.refusal == 0 && divisor != 1) exit(3);
+            if (place.refusal == 0 && divisor != 1) fail("a point has a divisor");
         } else {
             int64_t refusal;
             read_numbers(list, OBJECTS * NUMBERS);
@@ -66,7 +72,7 @@ int main(void)
             COUNTED(refusal = silvanelga_measure_list(list, OBJECTS * NUMBERS, row, ROW));
             library = divisions;
             COUNTED(before_divided(n));
-            if (refusal != 0 || row[2] != ONE_POINT || memcmp(row + 3, n, sizeof n) != 0) exit(3);
+            if (refusal != 0 || row[2] != ONE_POINT || memcmp(row + 3, n, sizeof n) != 0) fail("a pair shares another point");
         }
         printf("%ld %ld\n", library, divisions);
     }
