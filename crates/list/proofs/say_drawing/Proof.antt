@@ -26,20 +26,8 @@ seen : (c : tie.After-struct-told)
     ≡ readDrawing (take (c .before .before .before .before .before .before .args .got) (c .before .before .before .before .before .before .args .bytes .now)) .refusal
 seen c = toZ-ofZ w64 (c .before .before .read-drawing .result .refusal) (record { sfits = c .struct-told .given .0 .1 }) ∙ refusal (c .before .before)
 
-slice-aggregate-read-drawing : tie.Need-slice-aggregate-read-drawing
-slice-aggregate-read-drawing c = search needs
-
-slice-aggregate-read-drawing-2 : tie.Need-slice-aggregate-read-drawing-2
-slice-aggregate-read-drawing-2 c = search needs
-
-read-drawing-requires : tie.Need-read-drawing-requires
-read-drawing-requires c κs = search needs
-
 say-head-requires : tie.Need-say-head-requires
 say-head-requires c κs = c .before .before .before .before .before .before .pre .0
-
-status-requires : tie.Need-status-requires
-status-requires c κs = search needs
 
 returns : tie.Need-returns
 returns c = tells (c .before .before .say-head .result) _ _ (c .status .result) (seen (c .before .before .before)) (c .status .ensures)
@@ -47,29 +35,11 @@ returns c = tells (c .before .before .say-head .result) _ _ (c .status .result) 
 say-refused-requires : tie.Need-say-refused-requires
 say-refused-requires c κs = kept _ (c .before .if1 .left)
 
-status-requires-2 : tie.Need-status-requires-2
-status-requires-2 c κs = search needs
-
 returns-2 : tie.Need-returns-2
 returns-2 c = tells (c .before .say-refused .result) _ _ (c .status2 .result) (seen (c .before .before .before .before .before)) (c .status2 .ensures)
 
-slice-aggregate-of-numbers : tie.Need-slice-aggregate-of-numbers
-slice-aggregate-of-numbers c = search needs
-
-of-numbers-requires : tie.Need-of-numbers-requires
-of-numbers-requires c κs = search needs
-
-array-share-prefix-list : tie.Need-array-share-prefix-list
-array-share-prefix-list c = search needs
-
-slice-aggregate-say-listing : tie.Need-slice-aggregate-say-listing
-slice-aggregate-say-listing c = search needs
-
 say-listing-requires : tie.Need-say-listing-requires
 say-listing-requires c κs = kept _ (c .before .before .before .before .if1 .left)
-
-status-requires-3 : tie.Need-status-requires-3
-status-requires-3 c κs = search needs
 
 returns-3 : tie.Need-returns-3
 returns-3 c = tells (c .before .say-listing .result) _ _ (c .status3 .result) (seen (c .before .before .before .before .before .before .before .before)) (c .status3 .ensures)
@@ -78,19 +48,19 @@ pub say-drawing-spec : {M : Type 1} → statement M
 say-drawing-spec =
     tie.close
     (tie.spec
-    slice-aggregate-read-drawing
-    slice-aggregate-read-drawing-2
-    read-drawing-requires
+    (λ c. search needs)
+    (λ c. search needs)
+    (λ c κs. search needs)
     say-head-requires
-    status-requires
+    (λ c κs. search needs)
     returns
     say-refused-requires
-    status-requires-2
+    (λ c κs. search needs)
     returns-2
-    slice-aggregate-of-numbers
-    of-numbers-requires
-    array-share-prefix-list
-    slice-aggregate-say-listing
+    (λ c. search needs)
+    (λ c κs. search needs)
+    (λ c. search needs)
+    (λ c. search needs)
     say-listing-requires
-    status-requires-3
+    (λ c κs. search needs)
     returns-3)

@@ -18,12 +18,6 @@ abbrev μ-loop : tie.MeasureT-loop
 not-last : (c : tie.Then1 Inv-loop μ-loop) → c .before .before .loop .i < c .before .before .before .before .of-most .result
 not-last c = ltb-true _ _ (c .if1 .taken)
 
-of-most-requires : tie.Need-of-most-requires Inv-loop μ-loop
-of-most-requires c κs = search needs
-
-say-objects-requires : tie.Need-say-objects-requires Inv-loop μ-loop
-say-objects-requires c κs = search needs
-
 loop-holds : tie.Need-loop-holds Inv-loop μ-loop
 loop-holds c = omega arith
 
@@ -57,8 +51,8 @@ say-listing-spec =
     (tie.spec
     Inv-loop
     μ-loop
-    of-most-requires
-    say-objects-requires
+    (λ c κs. search needs)
+    (λ c κs. search needs)
     loop-holds
     say-rows-requires
     add-total

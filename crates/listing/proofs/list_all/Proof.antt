@@ -18,12 +18,6 @@ accepted c = not-refused (c .before .list-refusal .ok) (c .before .list-refusal 
 known : (c : tie.Else1) → Listable (c .before .before .args .list .now)
 known c = listable (c .before .before .args .list .now) (accepted c)
 
-list-refusal-requires : tie.Need-list-refusal-requires
-list-refusal-requires c κs = search needs
-
-refuse-requires : tie.Need-refuse-requires
-refuse-requires c κs = search needs
-
 returns : tie.Need-returns
 returns c =
     let d = c .before in
@@ -35,9 +29,6 @@ returns c =
 
 lacking-room-requires : tie.Need-lacking-room-requires
 lacking-room-requires c κs = known c
-
-refuse-requires-2 : tie.Need-refuse-requires-2
-refuse-requires-2 c κs = search needs
 
 returns-2 : tie.Need-returns-2
 returns-2 c =
@@ -56,12 +47,6 @@ put-rows-requires c κs =
     let l = s .args .list .now in
     (known (k .before), room (sharing l) (rowsOf l) (s .args .out .now) (length-rows l) (k .lacking-room .result) (k .lacking-room .ensures) (c .before .if2 .left))
 
-accept-requires : tie.Need-accept-requires
-accept-requires c κs = search needs
-
-same-length : tie.Need-same-length
-same-length c = search needs
-
 returns-3 : tie.Need-returns-3
 returns-3 c =
     let d = c .before in
@@ -78,13 +63,13 @@ pub list-all-spec : {M : Type 1} → statement M
 list-all-spec =
     tie.close
     (tie.spec
-    list-refusal-requires
-    refuse-requires
+    (λ c κs. search needs)
+    (λ c κs. search needs)
     returns
     lacking-room-requires
-    refuse-requires-2
+    (λ c κs. search needs)
     returns-2
     put-rows-requires
-    accept-requires
-    same-length
+    (λ c κs. search needs)
+    (λ c. search needs)
     returns-3)

@@ -25,12 +25,6 @@ known c =
     let z = or-zero (listRefusal l) (indexRefusal l (s .args .i)) (accepted c) in
     (listable l (z .0), index-below l (s .args .i) (z .1))
 
-index-refusal-requires : tie.Need-index-refusal-requires
-index-refusal-requires c κs = search needs
-
-refuse-requires : tie.Need-refuse-requires
-refuse-requires c κs = search needs
-
 returns : tie.Need-returns
 returns c =
     let d = c .before in
@@ -43,9 +37,6 @@ returns c =
 
 lacking-with-requires : tie.Need-lacking-with-requires
 lacking-with-requires c κs = known c
-
-refuse-requires-2 : tie.Need-refuse-requires-2
-refuse-requires-2 c κs = search needs
 
 returns-2 : tie.Need-returns-2
 returns-2 c =
@@ -69,12 +60,6 @@ put-rows-with-requires c κs =
     (k .lacking-with .result) (k .lacking-with .ensures) (c .before .if2 .left) in
     (known e, omega (arith, fits))
 
-accept-requires : tie.Need-accept-requires
-accept-requires c κs = search needs
-
-same-length : tie.Need-same-length
-same-length c = search needs
-
 returns-3 : tie.Need-returns-3
 returns-3 c =
     let d = c .before in
@@ -94,13 +79,13 @@ pub list-one-spec : {M : Type 1} → statement M
 list-one-spec =
     tie.close
     (tie.spec
-    index-refusal-requires
-    refuse-requires
+    (λ c κs. search needs)
+    (λ c κs. search needs)
     returns
     lacking-with-requires
-    refuse-requires-2
+    (λ c κs. search needs)
     returns-2
     put-rows-with-requires
-    accept-requires
-    same-length
+    (λ c κs. search needs)
+    (λ c. search needs)
     returns-3)

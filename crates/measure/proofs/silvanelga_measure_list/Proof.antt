@@ -5,16 +5,10 @@ use borrow.Author.Needs.{needs}
 use Rattle.measure.proofs.silvanelga_measure_list.Statement.{statement}
 use Rattle.measure.proofs.silvanelga_measure_list.Tie as tie
 
-list-all-requires : tie.Need-list-all-requires
-list-all-requires c κs = search needs
-
-same-length : tie.Need-same-length
-same-length c = search needs
-
 returns : tie.Need-returns
 returns c =
     let r = c .before .before .list-all in
     (out-ok (r .result .refusal) (c .struct-told .given .0 .1) ∙ ap (λ (z : Listed). z .refusal) (r .ensures .0), r .ensures .1)
 
 pub silvanelga-measure-list-spec : {M : Type 1} → statement M
-silvanelga-measure-list-spec = tie.close (tie.spec list-all-requires same-length returns)
+silvanelga-measure-list-spec = tie.close (tie.spec (λ c κs. search needs) (λ c. search needs) returns)

@@ -6,12 +6,6 @@ use borrow.Author.Needs.{needs}
 use Rattle.measure.proofs.silvanelga_measure_place.Statement.{statement}
 use Rattle.measure.proofs.silvanelga_measure_place.Tie as tie
 
-place-of-requires : tie.Need-place-of-requires
-place-of-requires c κs = search needs
-
-of-place-requires : tie.Need-of-place-requires
-of-place-requires c κs = search needs
-
 returns : tie.Need-returns
 returns c =
     let s = c .before .before in
@@ -21,4 +15,4 @@ returns c =
     ∙ ap placeShown (handed.point p (s .fits .mx .sfits) (s .fits .nx .sfits) (s .fits .my .sfits) (s .fits .ny .sfits) (s .fits .w .sfits))
 
 pub silvanelga-measure-place-spec : {M : Type 1} → statement M
-silvanelga-measure-place-spec = tie.close (tie.spec place-of-requires of-place-requires returns)
+silvanelga-measure-place-spec = tie.close (tie.spec (λ c κs. search needs) (λ c κs. search needs) returns)

@@ -5,16 +5,10 @@ use borrow.Author.Needs.{needs}
 use Rattle.measure.proofs.silvanelga_measure_read.Statement.{statement}
 use Rattle.measure.proofs.silvanelga_measure_read.Tie as tie
 
-read-drawing-requires : tie.Need-read-drawing-requires
-read-drawing-requires c κs = search needs
-
-same-length : tie.Need-same-length
-same-length c = search needs
-
 returns : tie.Need-returns
 returns c =
     let r = c .before .before .read-drawing in
     (out-ok (r .result .refusal) (c .struct-told .given .0 .1) ∙ ap (λ (z : Read). z .refusal) (r .ensures .0), r .ensures .1)
 
 pub silvanelga-measure-read-spec : {M : Type 1} → statement M
-silvanelga-measure-read-spec = tie.close (tie.spec read-drawing-requires same-length returns)
+silvanelga-measure-read-spec = tie.close (tie.spec (λ c κs. search needs) (λ c. search needs) returns)

@@ -7,9 +7,6 @@ use borrow.Author.Needs.{needs}
 use Rattle.rowtext.proofs.after.Statement.{statement}
 use Rattle.rowtext.proofs.after.Tie as tie
 
-add-result : tie.Need-add-result
-add-result c = search needs
-
 returns : tie.Need-returns
 returns c = sym (said-is (omega arith))
 
@@ -19,4 +16,4 @@ returns-2 c =
     last ∙ sym (said-past (omega arith))
 
 pub after-spec : {M : Type 1} → statement M
-after-spec = tie.close (tie.spec add-result returns returns-2)
+after-spec = tie.close (tie.spec (λ c. search needs) returns returns-2)

@@ -14,12 +14,6 @@ bytes-are c =
     let s = c .before .before .before in
     ⊎-elim (λ w. w .1) (λ w. w .1 ∙ sym (set-past (s .args .out .now) (s .args .at) (s .args .b) (w .0 .left))) (c .before .if1 .came)
 
-slice-write-out : tie.Need-slice-write-out
-slice-write-out c = search needs
-
-after-requires : tie.Need-after-requires
-after-requires c κs = search needs
-
 same-length : tie.Need-same-length
 same-length c = simp (bytes-are c, length-set)
 
@@ -27,4 +21,4 @@ returns : tie.Need-returns
 returns c = record { bytes = bytes-are c; place = c .after .ensures; lent = omega arith }
 
 pub put-byte-spec : {M : Type 1} → statement M
-put-byte-spec = tie.close (tie.spec slice-write-out after-requires same-length returns)
+put-byte-spec = tie.close (tie.spec (λ c. search needs) (λ c κs. search needs) same-length returns)

@@ -7,15 +7,6 @@ use borrow.Author.Needs.{needs}
 use Rattle.rowtext.proofs.put_field.Statement.{statement}
 use Rattle.rowtext.proofs.put_field.Tie as tie
 
-put-byte-requires : tie.Need-put-byte-requires
-put-byte-requires c κs = search needs
-
-put-number-requires : tie.Need-put-number-requires
-put-number-requires c κs = search needs
-
-same-length : tie.Need-same-length
-same-length c = search needs
-
 returns : tie.Need-returns
 returns c =
     let s = c .before .before .before .before .before .before .before .before .before in
@@ -24,4 +15,4 @@ returns c =
     wrote-more byte (wrote-as number (ap signed (out-is (s .fits .n))))
 
 pub put-field-spec : {M : Type 1} → statement M
-put-field-spec = tie.close (tie.spec put-byte-requires put-number-requires same-length returns)
+put-field-spec = tie.close (tie.spec (λ c κs. search needs) (λ c κs. search needs) (λ c. search needs) returns)

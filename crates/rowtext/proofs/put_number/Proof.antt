@@ -5,19 +5,10 @@ use borrow.Author.Needs.{needs}
 use Rattle.rowtext.proofs.put_number.Statement.{statement}
 use Rattle.rowtext.proofs.put_number.Tie as tie
 
-size-requires : tie.Need-size-requires
-size-requires c κs = search needs
-
-put-sized-requires : tie.Need-put-sized-requires
-put-sized-requires c κs = search needs
-
-same-length : tie.Need-same-length
-same-length c = search needs
-
 returns : tie.Need-returns
 returns c =
     let s = c .before .before .before .before .before .before in
     wrote-as (c .before .before .put-sized .ensures) (signed-out (s .fits .n) (c .before .before .before .before .size .ensures))
 
 pub put-number-spec : {M : Type 1} → statement M
-put-number-spec = tie.close (tie.spec size-requires put-sized-requires same-length returns)
+put-number-spec = tie.close (tie.spec (λ c κs. search needs) (λ c κs. search needs) (λ c. search needs) returns)

@@ -24,24 +24,6 @@ loop-holds : tie.Need-loop-holds Inv-loop μ-loop
 unfolding numbers
 loop-holds c = (omega arith, wrote-none (omega arith) (omega arith))
 
-add-n : tie.Need-add-n Inv-loop μ-loop
-add-n c = search needs
-
-mul-n : tie.Need-mul-n Inv-loop μ-loop
-mul-n c = search needs
-
-shared-slice-copy-out-n : tie.Need-shared-slice-copy-out-n Inv-loop μ-loop
-shared-slice-copy-out-n c = search needs
-
-put-field-requires : tie.Need-put-field-requires Inv-loop μ-loop
-put-field-requires c κs = search needs
-
-add-i : tie.Need-add-i Inv-loop μ-loop
-add-i c = search needs
-
-loop-less : tie.Need-loop-less Inv-loop μ-loop
-loop-less c = search needs
-
 loop-again : tie.Need-loop-again Inv-loop μ-loop
 loop-again c =
     let s = c .before .before .before .before .before .before .before .before in
@@ -70,12 +52,12 @@ put-numbers-spec =
     Inv-loop
     μ-loop
     loop-holds
-    add-n
-    mul-n
-    shared-slice-copy-out-n
-    put-field-requires
-    add-i
-    loop-less
+    (λ c. search needs)
+    (λ c. search needs)
+    (λ c. search needs)
+    (λ c κs. search needs)
+    (λ c. search needs)
+    (λ c. search needs)
     loop-again
     same-length
     returns)

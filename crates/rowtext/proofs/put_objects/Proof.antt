@@ -6,15 +6,6 @@ use borrow.Author.Needs.{needs}
 use Rattle.rowtext.proofs.put_objects.Statement.{statement}
 use Rattle.rowtext.proofs.put_objects.Tie as tie
 
-slice-aggregate-put-line : tie.Need-slice-aggregate-put-line
-slice-aggregate-put-line c = search needs
-
-put-line-requires : tie.Need-put-line-requires
-put-line-requires c κs = search needs
-
-same-length : tie.Need-same-length
-same-length c = search needs
-
 returns : tie.Need-returns
 returns c =
     let s = c .before .before .before .before .before .before in
@@ -23,4 +14,4 @@ returns c =
 
 pub put-objects-spec : {M : Type 1} → statement M
 put-objects-spec =
-    tie.close (tie.spec slice-aggregate-put-line put-line-requires same-length returns)
+    tie.close (tie.spec (λ c. search needs) (λ c κs. search needs) (λ c. search needs) returns)

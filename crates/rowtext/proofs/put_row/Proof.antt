@@ -10,30 +10,6 @@ use borrow.Author.Needs.{needs}
 use Rattle.rowtext.proofs.put_row.Statement.{statement}
 use Rattle.rowtext.proofs.put_row.Tie as tie
 
-mul-i : tie.Need-mul-i
-mul-i c = search needs
-
-shared-slice-copy-out-i : tie.Need-shared-slice-copy-out-i
-shared-slice-copy-out-i c = search needs
-
-put-number-requires : tie.Need-put-number-requires
-put-number-requires c κs = search needs
-
-add-put-numbers : tie.Need-add-put-numbers
-add-put-numbers c = search needs
-
-put-numbers-requires : tie.Need-put-numbers-requires
-put-numbers-requires c κs = search needs
-
-put-shared-requires : tie.Need-put-shared-requires
-put-shared-requires c κs = search needs
-
-put-byte-requires : tie.Need-put-byte-requires
-put-byte-requires c κs = search needs
-
-same-length : tie.Need-same-length
-same-length c = search needs
-
 returns : tie.Need-returns
 returns c =
     let third = c .before .before .before .before .before .before in
@@ -53,12 +29,12 @@ pub put-row-spec : {M : Type 1} → statement M
 put-row-spec =
     tie.close
     (tie.spec
-    mul-i
-    shared-slice-copy-out-i
-    put-number-requires
-    add-put-numbers
-    put-numbers-requires
-    put-shared-requires
-    put-byte-requires
-    same-length
+    (λ c. search needs)
+    (λ c. search needs)
+    (λ c κs. search needs)
+    (λ c. search needs)
+    (λ c κs. search needs)
+    (λ c κs. search needs)
+    (λ c κs. search needs)
+    (λ c. search needs)
     returns)

@@ -11,12 +11,6 @@ returns c =
     let says = no-rows (c .before .before .args .rows .now) (c .before .before .args .out .now) (c .if1 .taken) in
     (says .answer, (says .bytes, refl))
 
-slice-aggregate-put-all : tie.Need-slice-aggregate-put-all
-slice-aggregate-put-all c = search needs
-
-put-all-requires : tie.Need-put-all-requires
-put-all-requires c κs = search needs
-
 returns-2 : tie.Need-returns-2
 unfolding rowsText
 returns-2 c =
@@ -24,12 +18,6 @@ returns-2 c =
     let rows = rows-taken (s .args .rows .now) (c .before .before .before .before .if1 .left) in
     let says = put-short rows (c .before .before .put-all .ensures) (s .args .out .now) (c .if2 .taken) in
     (says .answer, (says .bytes, refl))
-
-put-all-requires-2 : tie.Need-put-all-requires-2
-put-all-requires-2 c κs = search needs
-
-same-length : tie.Need-same-length
-same-length c = search needs
 
 returns-3 : tie.Need-returns-3
 unfolding rowsText
@@ -45,9 +33,9 @@ put-rows-spec =
     tie.close
     (tie.spec
     returns
-    slice-aggregate-put-all
-    put-all-requires
+    (λ c. search needs)
+    (λ c κs. search needs)
     returns-2
-    put-all-requires-2
-    same-length
+    (λ c κs. search needs)
+    (λ c. search needs)
     returns-3)

@@ -4,18 +4,6 @@ use borrow.Author.Needs.{needs}
 use Rattle.rowtext.proofs.put_word.Statement.{statement}
 use Rattle.rowtext.proofs.put_word.Tie as tie
 
-put-text-requires : tie.Need-put-text-requires
-put-text-requires c κs = search needs
-
-put-sized-requires : tie.Need-put-sized-requires
-put-sized-requires c κs = search needs
-
-put-byte-requires : tie.Need-put-byte-requires
-put-byte-requires c κs = search needs
-
-same-length : tie.Need-same-length
-same-length c = search needs
-
 returns : tie.Need-returns
 returns c =
     let number = c .before .before .before .before .before .before in
@@ -24,4 +12,4 @@ returns c =
 
 pub put-word-spec : {M : Type 1} → statement M
 put-word-spec =
-    tie.close (tie.spec put-text-requires put-sized-requires put-byte-requires same-length returns)
+    tie.close (tie.spec (λ c κs. search needs) (λ c κs. search needs) (λ c κs. search needs) (λ c. search needs) returns)

@@ -3,18 +3,6 @@ use borrow.Author.Needs.{needs}
 use Rattle.sheet.proofs.any_beyond.Statement.{statement}
 use Rattle.sheet.proofs.any_beyond.Tie as tie
 
-is-beyond-requires : tie.Need-is-beyond-requires
-is-beyond-requires c κs = search needs
-
-is-beyond-requires-2 : tie.Need-is-beyond-requires-2
-is-beyond-requires-2 c κs = search needs
-
-is-beyond-requires-3 : tie.Need-is-beyond-requires-3
-is-beyond-requires-3 c κs = search needs
-
-is-beyond-requires-4 : tie.Need-is-beyond-requires-4
-is-beyond-requires-4 c κs = search needs
-
 returns : tie.Need-returns
 returns c =
     let s = c .before .before .before .before in
@@ -34,8 +22,8 @@ pub any-beyond-spec : {M : Type 1} → statement M
 any-beyond-spec =
     tie.close
     (tie.spec
-    is-beyond-requires
-    is-beyond-requires-2
-    is-beyond-requires-3
-    is-beyond-requires-4
+    (λ c κs. search needs)
+    (λ c κs. search needs)
+    (λ c κs. search needs)
+    (λ c κs. search needs)
     returns)

@@ -14,9 +14,6 @@ refusal c =
     let s = c .before in
     simp (c .pair-refusal .ensures, out-is, s .fits .px, s .fits .py, s .fits .qx, s .fits .qy)
 
-pair-refusal-requires : tie.Need-pair-refusal-requires
-pair-refusal-requires c κs = search needs
-
 returns : tie.Need-returns
 returns c = says-refused _ (record { sfits = c .before .pair-refusal .ok }) (refusal (c .before)) (c .if1 .taken)
 
@@ -27,4 +24,4 @@ returns-2 c =
     (says-accepted _ (record { sfits = c .before .pair-refusal .ok }) (refusal (c .before)) (c .if1 .left))
 
 pub make-spec : {M : Type 1} → statement M
-make-spec = tie.close (tie.spec pair-refusal-requires returns returns-2)
+make-spec = tie.close (tie.spec (λ c κs. search needs) returns returns-2)

@@ -5,9 +5,6 @@ use borrow.Author.Needs.{needs}
 use Rattle.sheet.proofs.object_refusal.Statement.{statement}
 use Rattle.sheet.proofs.object_refusal.Tie as tie
 
-refusal-of-requires : tie.Need-refusal-of-requires
-refusal-of-requires c κs = search needs
-
 returns : tie.Need-returns
 unfolding objectRefusal
 returns c =
@@ -26,4 +23,4 @@ returns c =
     )
 
 pub object-refusal-spec : {M : Type 1} → statement M
-object-refusal-spec = tie.close (tie.spec refusal-of-requires returns)
+object-refusal-spec = tie.close (tie.spec (λ c κs. search needs) returns)

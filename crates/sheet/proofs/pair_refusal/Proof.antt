@@ -22,15 +22,9 @@ twice c =
     let s = c .before .before .before in
     simp (c .are-equal .ensures, out-is, s .fits .px, s .fits .py, s .fits .qx, s .fits .qy)
 
-any-beyond-requires : tie.Need-any-beyond-requires
-any-beyond-requires c κs = search needs
-
 returns : tie.Need-returns
 unfolding pairRefusal
 returns c = simp (sym (far (c .before)) ∙ c .if1 .taken)
-
-are-equal-requires : tie.Need-are-equal-requires
-are-equal-requires c κs = search needs
 
 returns-2 : tie.Need-returns-2
 unfolding pairRefusal
@@ -42,4 +36,4 @@ returns-3 c = simp (sym (far (c .before .before .before)) ∙ c .before .before 
 
 pub pair-refusal-spec : {M : Type 1} → statement M
 pair-refusal-spec =
-    tie.close (tie.spec any-beyond-requires returns are-equal-requires returns-2 returns-3)
+    tie.close (tie.spec (λ c κs. search needs) returns (λ c κs. search needs) returns-2 returns-3)

@@ -9,14 +9,8 @@ use Rattle.sheet.proofs.refusal_of.Tie as tie
 kind : (c : tie.After-is-outside) → c .is-outside .result ≡ outside (pos 1) (pos 4) (c .before .args .kind)
 kind c = simp (c .is-outside .ensures, out-is, c .before .fits .kind)
 
-is-outside-requires : tie.Need-is-outside-requires
-is-outside-requires c κs = search needs
-
 returns : tie.Need-returns
 returns c = simp (sym (kind (c .before)) ∙ c .if1 .taken)
-
-side-refusal-requires : tie.Need-side-refusal-requires
-side-refusal-requires c κs = search needs
 
 returns-2 : tie.Need-returns-2
 returns-2 c =
@@ -33,9 +27,6 @@ returns-2 c =
       s .fits .qx,
       s .fits .qy,
     )
-
-pair-refusal-requires : tie.Need-pair-refusal-requires
-pair-refusal-requires c κs = search needs
 
 returns-3 : tie.Need-returns-3
 returns-3 c =
@@ -57,9 +48,9 @@ pub refusal-of-spec : {M : Type 1} → statement M
 refusal-of-spec =
     tie.close
     (tie.spec
-    is-outside-requires
+    (λ c κs. search needs)
     returns
-    side-refusal-requires
+    (λ c κs. search needs)
     returns-2
-    pair-refusal-requires
+    (λ c κs. search needs)
     returns-3)

@@ -13,9 +13,6 @@ wrong c =
     let s = c .before in
     simp (c .is-no-side .ensures, out-is, s .fits .n, s .fits .a, s .fits .b, s .fits .c)
 
-is-no-side-requires : tie.Need-is-no-side-requires
-is-no-side-requires c κs = search needs
-
 returns : tie.Need-returns
 unfolding sideRefusal
 returns c = simp (sym (wrong (c .before)) ∙ c .if1 .taken)
@@ -25,4 +22,4 @@ unfolding sideRefusal
 returns-2 c = simp (sym (wrong (c .before)) ∙ c .if1 .left)
 
 pub side-refusal-spec : {M : Type 1} → statement M
-side-refusal-spec = tie.close (tie.spec is-no-side-requires returns returns-2)
+side-refusal-spec = tie.close (tie.spec (λ c κs. search needs) returns returns-2)

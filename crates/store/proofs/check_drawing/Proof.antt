@@ -10,26 +10,11 @@ use Rattle.store.specs.ObjectsLaws.{drawing-refused, drawing-counted}
 use Rattle.store.proofs.check_drawing.Statement.{statement}
 use Rattle.store.proofs.check_drawing.Tie as tie
 
-read-count-requires : tie.Need-read-count-requires
-read-count-requires c κs = search needs
-
 returns : tie.Need-returns
 returns c =
     let r = c .before .before .read-count in
     let ok = c .before .struct-told .given .0 .1 in
     out-ok (r .result .refusal) ok ∙ sym (ap (λ (d : Drawing). d .refusal) (drawing-refused (r .ensures .0) ok (c .if1 .taken)))
-
-sub-read-objects : tie.Need-sub-read-objects
-sub-read-objects c = search needs
-
-part-read-objects-start : tie.Need-part-read-objects-start
-part-read-objects-start c = search needs
-
-part-read-objects-end : tie.Need-part-read-objects-end
-part-read-objects-end c = search needs
-
-slice-aggregate-read-objects : tie.Need-slice-aggregate-read-objects
-slice-aggregate-read-objects c = search needs
 
 read-objects-requires : tie.Need-read-objects-requires
 read-objects-requires c κs = c .before .before .before .before .read-count .ensures .1
@@ -50,11 +35,11 @@ pub check-drawing-spec : {M : Type 1} → statement M
 check-drawing-spec =
     tie.close
     (tie.spec
-    read-count-requires
+    (λ c κs. search needs)
     returns
-    sub-read-objects
-    part-read-objects-start
-    part-read-objects-end
-    slice-aggregate-read-objects
+    (λ c. search needs)
+    (λ c. search needs)
+    (λ c. search needs)
+    (λ c. search needs)
     read-objects-requires
     returns-2)

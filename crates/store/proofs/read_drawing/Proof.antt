@@ -15,9 +15,6 @@ use Rattle.store.specs.AnswersLaws.{read-refused, read-short, read-done}
 use Rattle.store.proofs.read_drawing.Statement.{statement}
 use Rattle.store.proofs.read_drawing.Tie as tie
 
-read-count-requires : tie.Need-read-count-requires
-read-count-requires c κs = search needs
-
 -- the drawing once its count is read
 counted :
     (c : tie.After-read-objects) →
@@ -61,18 +58,6 @@ returns c =
     read-refused d (s .args .out .now) (r .result .refusal) ok
     (sym (ap (λ (d : Drawing). d .refusal) (drawing-refused (r .ensures .0) ok (c .if1 .taken)))) (c .if1 .taken)
 
-sub-read-objects : tie.Need-sub-read-objects
-sub-read-objects c = search needs
-
-part-read-objects-start : tie.Need-part-read-objects-start
-part-read-objects-start c = search needs
-
-part-read-objects-end : tie.Need-part-read-objects-end
-part-read-objects-end c = search needs
-
-slice-aggregate-read-objects : tie.Need-slice-aggregate-read-objects
-slice-aggregate-read-objects c = search needs
-
 read-objects-requires : tie.Need-read-objects-requires
 read-objects-requires c κs = c .before .before .before .before .read-count .ensures .1
 
@@ -82,9 +67,6 @@ returns-2 c =
     read-refused (readDrawing (s .args .bytes .now)) (s .args .out .now) (c .before .before .read-objects .result) (c .before .before .read-objects .ok)
     (whole (c .before .before)) (c .if2 .taken)
 
-mul-length : tie.Need-mul-length
-mul-length c = search needs
-
 returns-3 : tie.Need-returns-3
 returns-3 c =
     let s = c .before .before .before .before .before .before .before .before .before .before in
@@ -92,20 +74,8 @@ returns-3 c =
     let count = c .before .before .before .before .before .before .before .before .read-count .result .value in
     read-short d (s .args .out .now) count (fine (c .before)) (long (c .before)) (c .if3 .taken)
 
-sub-read-objects-2 : tie.Need-sub-read-objects-2
-sub-read-objects-2 c = search needs
-
-part-read-objects-start-2 : tie.Need-part-read-objects-start-2
-part-read-objects-start-2 c = search needs
-
-part-read-objects-end-2 : tie.Need-part-read-objects-end-2
-part-read-objects-end-2 c = search needs
-
 read-objects-requires-2 : tie.Need-read-objects-requires-2
 read-objects-requires-2 c κs = c .before .before .before .before .before .before .before .before .before .before .read-count .ensures .1
-
-same-length : tie.Need-same-length
-same-length c = search needs
 
 returns-4 : tie.Need-returns-4
 returns-4 c =
@@ -129,19 +99,19 @@ pub read-drawing-spec : {M : Type 1} → statement M
 read-drawing-spec =
     tie.close
     (tie.spec
-    read-count-requires
+    (λ c κs. search needs)
     returns
-    sub-read-objects
-    part-read-objects-start
-    part-read-objects-end
-    slice-aggregate-read-objects
+    (λ c. search needs)
+    (λ c. search needs)
+    (λ c. search needs)
+    (λ c. search needs)
     read-objects-requires
     returns-2
-    mul-length
+    (λ c. search needs)
     returns-3
-    sub-read-objects-2
-    part-read-objects-start-2
-    part-read-objects-end-2
+    (λ c. search needs)
+    (λ c. search needs)
+    (λ c. search needs)
     read-objects-requires-2
-    same-length
+    (λ c. search needs)
     returns-4)

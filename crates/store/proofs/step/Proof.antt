@@ -9,15 +9,9 @@ use Rattle.store.specs.StepLaws.{count-refused, count-taken}
 use Rattle.store.proofs.step.Statement.{statement}
 use Rattle.store.proofs.step.Tie as tie
 
-step-from-requires : tie.Need-step-from-requires
-step-from-requires c κs = search needs
-
 returns : tie.Need-returns
 unfolding stepOf
 returns c = simp (c .before .if1 .taken) (c .step-from .ensures)
-
-read-count-requires : tie.Need-read-count-requires
-read-count-requires c κs = search needs
 
 returns-2 : tie.Need-returns-2
 returns-2 c =
@@ -26,9 +20,6 @@ returns-2 c =
     let ok = c .before .struct-told .given .0 .1 in
     ap (λ (z : ℤ). stepTo (Refused z) (a .place)) (out-ok (r .result .refusal) ok)
     ∙ sym (count-refused (a .bytes .now) (a .place) (r .ensures .0) ok (c .before .before .before .if1 .left) (c .if2 .taken))
-
-step-from-requires-2 : tie.Need-step-from-requires-2
-step-from-requires-2 c κs = search needs
 
 returns-3 : tie.Need-returns-3
 returns-3 c =
@@ -42,9 +33,9 @@ pub step-spec : {M : Type 1} → statement M
 step-spec =
     tie.close
     (tie.spec
-    step-from-requires
+    (λ c κs. search needs)
     returns
-    read-count-requires
+    (λ c κs. search needs)
     returns-2
-    step-from-requires-2
+    (λ c κs. search needs)
     returns-3)

@@ -22,21 +22,6 @@ returns-2 c =
     let a = c .before .before .before .args in
     sym (step-end (a .bytes .now) (a .place) (a .left) (a .at) (c .before .if1 .taken) (c .if2 .left))
 
-clamp-requires : tie.Need-clamp-requires
-clamp-requires c κs = search needs
-
-sub-read-object : tie.Need-sub-read-object
-sub-read-object c = search needs
-
-part-read-object-start : tie.Need-part-read-object-start
-part-read-object-start c = search needs
-
-part-read-object-end : tie.Need-part-read-object-end
-part-read-object-end c = search needs
-
-read-object-requires : tie.Need-read-object-requires
-read-object-requires c κs = search needs
-
 returns-3 : tie.Need-returns-3
 returns-3 c =
     let a = c .before .before .before .before .before .before .before .args in
@@ -46,12 +31,6 @@ returns-3 c =
     ap (λ (z : ℤ). stepTo (Refused z) (a .place)) (out-ok (r .result .refusal) ok)
     ∙ sym (step-refused (a .bytes .now) (a .place) (a .left) (a .at) (omega arith) (s .ensures) (tells-rest readObject (s .result)
     (a .bytes .now) (r .ensures)) ok (c .if3 .taken))
-
-add-after : tie.Need-add-after
-add-after c = search needs
-
-sub-fewer : tie.Need-sub-fewer
-sub-fewer c = search needs
 
 returns-4 : tie.Need-returns-4
 returns-4 c =
@@ -68,12 +47,12 @@ step-from-spec =
     (tie.spec
     returns
     returns-2
-    clamp-requires
-    sub-read-object
-    part-read-object-start
-    part-read-object-end
-    read-object-requires
+    (λ c κs. search needs)
+    (λ c. search needs)
+    (λ c. search needs)
+    (λ c. search needs)
+    (λ c κs. search needs)
     returns-3
-    add-after
-    sub-fewer
+    (λ c. search needs)
+    (λ c. search needs)
     returns-4)

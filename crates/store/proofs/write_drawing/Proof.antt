@@ -16,17 +16,11 @@ use Rattle.store.specs.AnswersLaws.{write-refused, write-short, write-do
 use Rattle.store.proofs.write_drawing.Statement.{statement}
 use Rattle.store.proofs.write_drawing.Tie as tie
 
-list-refusal-requires : tie.Need-list-refusal-requires
-list-refusal-requires c κs = search needs
-
 returns : tie.Need-returns
 returns c =
     let s = c .before .before .before in
     let r = c .before .list-refusal in
     write-refused (s .args .list .now) (s .args .out .now) (r .result) (r .ok) (r .ensures) (c .if1 .taken)
-
-number-size-requires : tie.Need-number-size-requires
-number-size-requires c κs = search needs
 
 -- the list is accepted
 taken : (c : tie.Else1) → listRefusal (c .before .before .before .args .list .now) ≡ pos 0
@@ -91,9 +85,6 @@ write-objects-requires c κs =
       ),
     )
 
-same-length : tie.Need-same-length
-same-length c = search needs
-
 returns-3 : tie.Need-returns-3
 returns-3 c =
     let s = c .before .before .before .before .before .before .before .before .before .before .before .before .before .before in
@@ -113,13 +104,13 @@ pub write-drawing-spec : {M : Type 1} → statement M
 write-drawing-spec =
     tie.close
     (tie.spec
-    list-refusal-requires
+    (λ c κs. search needs)
     returns
-    number-size-requires
+    (λ c κs. search needs)
     objects-size-requires
     add-length
     returns-2
     write-number-requires
     write-objects-requires
-    same-length
+    (λ c. search needs)
     returns-3)

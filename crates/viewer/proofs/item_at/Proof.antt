@@ -18,20 +18,8 @@ Inv-loop bytes i place₀ left₀ place left = callFrom bytes place left ≡ cal
 abbrev μ-loop : tie.MeasureT-loop
 μ-loop bytes i place₀ left₀ place left = left
 
-start-requires : tie.Need-start-requires Inv-loop μ-loop
-start-requires c κs = search needs
-
 loop-holds : tie.Need-loop-holds Inv-loop μ-loop
 loop-holds c = ap (λ (p : Place). callFrom (c .before .before .args .bytes .now) p (c .before .before .args .i)) (c .start .ensures)
-
-step-requires : tie.Need-step-requires Inv-loop μ-loop
-step-requires c κs = search needs
-
-sub-left : tie.Need-sub-left Inv-loop μ-loop
-sub-left c = search needs
-
-loop-less : tie.Need-loop-less Inv-loop μ-loop
-loop-less c = search needs
 
 loop-again : tie.Need-loop-again Inv-loop μ-loop
 loop-again c =
@@ -40,9 +28,6 @@ loop-again c =
     ap (λ (s : Stepped). callFrom bs (s .place) (l .left - 1)) (c .before .step .ensures)
     ∙ sym (call-more bs (l .place) (l .left) (omega arith))
     ∙ l .inv
-
-step-requires-2 : tie.Need-step-requires-2 Inv-loop μ-loop
-step-requires-2 c κs = search needs
 
 returns : tie.Need-returns Inv-loop μ-loop
 returns c =
@@ -62,11 +47,11 @@ item-at-spec =
     (tie.spec
     Inv-loop
     μ-loop
-    start-requires
+    (λ c κs. search needs)
     loop-holds
-    step-requires
-    sub-left
-    loop-less
+    (λ c κs. search needs)
+    (λ c. search needs)
+    (λ c. search needs)
     loop-again
-    step-requires-2
+    (λ c κs. search needs)
     returns)

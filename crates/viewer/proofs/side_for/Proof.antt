@@ -22,15 +22,6 @@ use Rattle.viewer.specs.CallsLaws.{place-far, place-near, side-taken}
 use Rattle.viewer.proofs.side_for.Statement.{statement}
 use Rattle.viewer.proofs.side_for.Tie as tie
 
-is-beyond-requires : tie.Need-is-beyond-requires
-is-beyond-requires c κs = search needs
-
-is-beyond-requires-2 : tie.Need-is-beyond-requires-2
-is-beyond-requires-2 c κs = search needs
-
-add-result : tie.Need-add-result
-add-result c = search needs
-
 tested : (c : tie.After-is-beyond2) →
     (beyond (c .before .before .args .x) || beyond (c .before .before .args .y)) ≡ (c .before .is-beyond .result || c .is-beyond2 .result)
 tested c =
@@ -41,9 +32,6 @@ returns : tie.Need-returns
 returns c =
     let s = c .before .before .before in
     place-far (s .args .x) (s .args .y) (s .args .o) (tested (c .before) ∙ c .if1 .taken)
-
-side-of-requires : tie.Need-side-of-requires
-side-of-requires c κs = search needs
 
 module _ (c : tie.After-side-of) where
   abbrev s : tie.Start
@@ -68,12 +56,6 @@ module _ (c : tie.After-side-of) where
       ∙ ap (λ (q : Point). answer (sideSignRefusal (s .args .o) q) (sideSign (s .args .o) q ∷ []))
       (handed.point p nought (s .fits .x .sfits) nought (s .fits .y .sfits) one)
       ∙ accepted (sideSign (s .args .o) p ∷ []) none)
-
-enum-known-signed : tie.Need-enum-known-signed
-enum-known-signed c = search needs
-
-enum-known-signed-2 : tie.Need-enum-known-signed-2
-enum-known-signed-2 c = search needs
 
 never : (c : tie.After-known-told2) → ⊥
 never c =
@@ -101,13 +83,13 @@ pub side-for-spec : {M : Type 1} → statement M
 side-for-spec =
     tie.close
     (tie.spec
-    is-beyond-requires
-    is-beyond-requires-2
-    add-result
+    (λ c κs. search needs)
+    (λ c κs. search needs)
+    (λ c. search needs)
     returns
-    side-of-requires
-    enum-known-signed
-    enum-known-signed-2
+    (λ c κs. search needs)
+    (λ c. search needs)
+    (λ c. search needs)
     add-result-2
     returns-2
     returns-3)

@@ -3,11 +3,8 @@ use borrow.Author.Needs.{needs}
 use Rattle.viewer.proofs.silvanelga_check.Statement.{statement}
 use Rattle.viewer.proofs.silvanelga_check.Tie as tie
 
-check-drawing-requires : tie.Need-check-drawing-requires
-check-drawing-requires c κs = search needs
-
 returns : tie.Need-returns
 returns c = gave (c .check-drawing .ok) (c .check-drawing .ensures)
 
 pub silvanelga-check-spec : {M : Type 1} → statement M
-silvanelga-check-spec = tie.close (tie.spec check-drawing-requires returns)
+silvanelga-check-spec = tie.close (tie.spec (λ c κs. search needs) returns)

@@ -30,9 +30,6 @@ stored s = s .args .bytes .now
 
 -- ---- the bytes' own
 
-check-drawing-requires : tie.Need-check-drawing-requires
-check-drawing-requires c κs = search needs
-
 refusal : (c : tie.After-check-drawing) → out (c .check-drawing .result) ≡ readDrawing (stored (c .before .before)) .refusal
 refusal c = gave (c .check-drawing .ok) (c .check-drawing .ensures)
 
@@ -57,12 +54,6 @@ fine c =
 
 -- ---- the index
 
-cast-if2 : tie.Need-cast-if2
-cast-if2 c = search needs
-
-add-result-2 : tie.Need-add-result-2
-add-result-2 c = search needs
-
 tested : (s : tie.Start) → farIndex (s .args .i) ≡ farIndex (out (s .args .i))
 tested s = ap farIndex (sym (out-is (s .fits .i)))
 
@@ -84,20 +75,11 @@ cast-item-at c =
 
 -- ---- the object
 
-item-at-requires : tie.Need-item-at-requires
-item-at-requires c κs = search needs
-
 stands : (c : tie.After-item-at) →
     let s = c .before .before .before .before .before in c .item-at .result ≡ itemOf (readDrawing (stored s)) (natAbs (s .args .i))
 stands c =
     let s = c .before .before .before .before .before in
     c .item-at .ensures ∙ ap (λ (z : ℤ). itemOf (readDrawing (stored s)) (natAbs z)) (out-is (s .fits .i))
-
-enum-known-item : tie.Need-enum-known-item
-enum-known-item c = search needs
-
-add-result-3 : tie.Need-add-result-3
-add-result-3 c = search needs
 
 no-object : (c : tie.At-match-keys2) → (o : Object) → c .before .item-at .result ≡ One o → ⊥
 no-object c o e = go (c .match .keys2)
@@ -145,16 +127,16 @@ pub silvanelga-side-spec : {M : Type 1} → statement M
 silvanelga-side-spec =
     tie.close
     (tie.spec
-    check-drawing-requires
+    (λ c κs. search needs)
     add-result
     returns
-    cast-if2
-    add-result-2
+    (λ c. search needs)
+    (λ c. search needs)
     returns-2
     cast-item-at
-    item-at-requires
-    enum-known-item
-    add-result-3
+    (λ c κs. search needs)
+    (λ c. search needs)
+    (λ c. search needs)
     returns-3
     side-for-requires
     returns-4)

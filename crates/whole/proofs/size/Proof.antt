@@ -88,9 +88,6 @@ cast-result-2 c =
     let n = nn-dest (lt-left f (fits64 (w-pos 0) tt) (c .if1 .left)) in
     cast (n .0) (out-is f ∙ n .1) (subst (λ (z : ℤ). mag z < 2 ^ 63) (n .1) (f .sfits))
 
-returns-2 : tie.Need-returns-2
-returns-2 c = search needs
-
 pub size-spec : {M : Type 1} → statement M
 size-spec =
-    tie.close (tie.spec add-below sub-below cast-result add-result returns cast-result-2 returns-2)
+    tie.close (tie.spec add-below sub-below cast-result add-result returns cast-result-2 (λ c. search needs))

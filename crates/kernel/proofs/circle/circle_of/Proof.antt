@@ -17,9 +17,6 @@ fourth-given c = given-is (c .before .before .args .u) (sym (c .before .check-gi
 fourth-frame : (c : tie.Else1) → Frame (c .before .before .args .u)
 fourth-frame c = not-given (c .before .before .pre .3) (sym (c .before .check-given .ensures) ∙ c .if1 .left)
 
-check-given-requires : tie.Need-check-given-requires
-check-given-requires c κs = search needs
-
 given-circle-requires : tie.Need-given-circle-requires
 given-circle-requires c κs =
     let d = c .before .before .before .before .before .before .before .before in
@@ -78,4 +75,4 @@ returns-2 c =
 pub circle-of-spec : {M : Type 1} → statement M
 circle-of-spec =
     tie.close
-    (tie.spec check-given-requires given-circle-requires returns frame-circle-requires returns-2)
+    (tie.spec (λ c κs. search needs) given-circle-requires returns frame-circle-requires returns-2)

@@ -6,33 +6,6 @@ use borrow.Author.Needs.{needs}
 use Rattle.kernel.proofs.circle.circle_refusal.Statement.{statement}
 use Rattle.kernel.proofs.circle.circle_refusal.Tie as tie
 
-point-refusal-requires : tie.Need-point-refusal-requires
-point-refusal-requires c κs = search needs
-
-given-refusal-requires : tie.Need-given-refusal-requires
-given-refusal-requires c κs = search needs
-
-point-refusal-requires-2 : tie.Need-point-refusal-requires-2
-point-refusal-requires-2 c κs = search needs
-
-or-else-requires : tie.Need-or-else-requires
-or-else-requires c κs = search needs
-
-or-else-requires-2 : tie.Need-or-else-requires-2
-or-else-requires-2 c κs = search needs
-
-point-refusal-requires-3 : tie.Need-point-refusal-requires-3
-point-refusal-requires-3 c κs = search needs
-
-point-refusal-requires-4 : tie.Need-point-refusal-requires-4
-point-refusal-requires-4 c κs = search needs
-
-or-else-requires-3 : tie.Need-or-else-requires-3
-or-else-requires-3 c κs = search needs
-
-or-else-requires-4 : tie.Need-or-else-requires-4
-or-else-requires-4 c κs = search needs
-
 returns : tie.Need-returns
 unfolding circleRefusal
 returns c =
@@ -53,13 +26,13 @@ pub circle-refusal-spec : {M : Type 1} → statement M
 circle-refusal-spec =
     tie.close
     (tie.spec
-    point-refusal-requires
-    given-refusal-requires
-    point-refusal-requires-2
-    or-else-requires
-    or-else-requires-2
-    point-refusal-requires-3
-    point-refusal-requires-4
-    or-else-requires-3
-    or-else-requires-4
+    (λ c κs. search needs)
+    (λ c κs. search needs)
+    (λ c κs. search needs)
+    (λ c κs. search needs)
+    (λ c κs. search needs)
+    (λ c κs. search needs)
+    (λ c κs. search needs)
+    (λ c κs. search needs)
+    (λ c κs. search needs)
     returns)

@@ -51,9 +51,6 @@ mul-inner-p-2 c = need (c .pre .0 .near) (ayE ⊗ byE) tt
 add-inner-p : tie.Need-add-inner-p
 add-inner-p c = need (c .pre .0 .near) innerE tt
 
-sign-requires : tie.Need-sign-requires
-sign-requires c κs = search needs
-
 pair-side-requires : tie.Need-pair-side-requires
 pair-side-requires c κs =
     let h = c .before .pre in
@@ -76,9 +73,6 @@ mul-seen c = need (parts c) (var 0 ⊗ var 1) tt
 
 sub-lead : tie.Need-sub-lead
 sub-lead c = need (parts c) (lit 0 ⊖ var 0 ⊗ var 1) tt
-
-lead-requires : tie.Need-lead-requires
-lead-requires c κs = search needs
 
 returns : tie.Need-returns
 returns c =
@@ -118,9 +112,9 @@ frame-circle-spec =
     mul-inner-p
     mul-inner-p-2
     add-inner-p
-    sign-requires
+    (λ c κs. search needs)
     pair-side-requires
     mul-seen
     sub-lead
-    lead-requires
+    (λ c κs. search needs)
     returns)

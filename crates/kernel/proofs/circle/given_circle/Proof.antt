@@ -96,9 +96,6 @@ mul-sign-2 c = need (c .pre .near) (innerE ⊗ turnUE) tt
 sub-sign : tie.Need-sub-sign
 sub-sign c = need (c .pre .near) (turnE ⊗ innerUE ⊖ innerE ⊗ turnUE) tt
 
-sign-requires : tie.Need-sign-requires
-sign-requires c κs = search needs
-
 returns : tie.Need-returns
 returns c =
     gave (c .sign .ok) (c .sign .ensures) ∙ ap sgn (gives (c .before .pre .near) (turnE ⊗ innerUE ⊖ innerE ⊗ turnUE) tt)
@@ -130,5 +127,5 @@ given-circle-spec =
     mul-sign
     mul-sign-2
     sub-sign
-    sign-requires
+    (λ c κs. search needs)
     returns)

@@ -5,17 +5,11 @@ use borrow.Author.Needs.{needs}
 use Rattle.kernel.proofs.circle.point_refusal.Statement.{statement}
 use Rattle.kernel.proofs.circle.point_refusal.Tie as tie
 
-check-given-requires : tie.Need-check-given-requires
-check-given-requires c κs = search needs
-
 returns : tie.Need-returns
 returns c = sym (given-taken (c .before .before .args .p) (sym (c .before .check-given .ensures) ∙ c .if1 .taken))
-
-check-point-requires : tie.Need-check-point-requires
-check-point-requires c κs = search needs
 
 returns-2 : tie.Need-returns-2
 returns-2 c = gave (c .check-point .ok) (c .check-point .ensures)
 
 pub point-refusal-spec : {M : Type 1} → statement M
-point-refusal-spec = tie.close (tie.spec check-given-requires returns check-point-requires returns-2)
+point-refusal-spec = tie.close (tie.spec (λ c κs. search needs) returns (λ c κs. search needs) returns-2)

@@ -12,9 +12,6 @@ use Rattle.kernel.proofs.circle.side_of_circle.Tie as tie
 passed : (c : tie.Else1) → let a = c .before .before .args in circleRefusal (a .p) (a .q) (a .s) (a .u) ≡ pos 0
 passed c = let r = c .before .circle-refusal in not-refused (r .ok) (r .ensures) (c .if1 .left)
 
-circle-refusal-requires : tie.Need-circle-refusal-requires
-circle-refusal-requires c κs = search needs
-
 returns : tie.Need-returns
 returns c =
     let r = c .before .circle-refusal in
@@ -32,4 +29,4 @@ returns-2 c =
 
 pub side-of-circle-spec : {M : Type 1} → statement M
 side-of-circle-spec =
-    tie.close (tie.spec circle-refusal-requires returns circle-of-requires returns-2)
+    tie.close (tie.spec (λ c κs. search needs) returns circle-of-requires returns-2)

@@ -31,18 +31,12 @@ first-told c = handed.object-told _ (c .before .before .before .before .before .
 second-told : (c : tie.After-struct-told10) → let o = tested c .before .before .before .before .args .b in handed.objectOut o ≡ o
 second-told c = handed.object-told _ (c .before .before .before .before .struct-told6 .given)
 
-object-refusal-requires : tie.Need-object-refusal-requires
-object-refusal-requires c κs = search needs
-
 returns : tie.Need-returns
 unfolding crossingRefusal
 returns c =
     let d = c .before in
     says-refused _ (fits-ok (d .object-refusal .result) (d .object-refusal .ok))
     (refused-first _ (d .object-refusal .ensures .0) (c .if1 .taken)) (c .if1 .taken)
-
-object-refusal-requires-2 : tie.Need-object-refusal-requires-2
-object-refusal-requires-2 c κs = search needs
 
 returns-2 : tie.Need-returns-2
 unfolding crossingRefusal
@@ -70,9 +64,9 @@ pub cross-spec : {M : Type 1} → statement M
 cross-spec =
     tie.close
     (tie.spec
-    object-refusal-requires
+    (λ c κs. search needs)
     returns
-    object-refusal-requires-2
+    (λ c κs. search needs)
     returns-2
     meet-requires
     returns-3)

@@ -34,9 +34,6 @@ part-asks c h =
 part-gives : (c : tie.After-divisor) {n : ℤ} → Within 64000000000 n → quotZ (out n) (pos (c .divisor .result)) ≡ quotZ n (pos (common (c .before)))
 part-gives c h = ap₂ (λ (z : ℤ) (g : ℕ). quotZ z (pos g)) (back h tt) (found c)
 
-divisor-requires : tie.Need-divisor-requires
-divisor-requires c κs = search needs
-
 -- where the divisor is 1, each number as it came
 kept : (c : tie.After-divisor) {n : ℤ} → c .divisor .result ≡ 1 → SFits w64 n → out n ≡ quotZ n (pos (common (c .before)))
 kept c {n} one f = out-is f ∙ sym (quot-one n) ∙ ap (λ (g : ℕ). quotZ n (pos g)) (sym one ∙ found c)
@@ -92,7 +89,7 @@ pub divide-spec : {M : Type 1} → statement M
 divide-spec =
     tie.close
     (tie.spec
-    divisor-requires
+    (λ c κs. search needs)
     returns
     part-requires
     part-requires-2

@@ -21,9 +21,6 @@ tested c = c .before .before .before .before .before
 told : (c : tie.After-struct-told5) → let o = tested c .before .before .args .o in handed.objectOut o ≡ o
 told c = handed.object-told _ (c .before .before .before .before .struct-told .given)
 
-object-refusal-requires : tie.Need-object-refusal-requires
-object-refusal-requires c κs = search needs
-
 returns : tie.Need-returns
 returns c = says-refused _ (fits-ok (c .before .object-refusal .result) (c .before .object-refusal .ok)) (c .before .object-refusal .ensures .0) (c .if1 .taken)
 
@@ -37,4 +34,4 @@ returns-2 c =
     ∙ sym (accepted _ (taken (tested (c .before)) .accepted))
 
 pub ends-of-spec : {M : Type 1} → statement M
-ends-of-spec = tie.close (tie.spec object-refusal-requires returns both-ends-requires returns-2)
+ends-of-spec = tie.close (tie.spec (λ c κs. search needs) returns both-ends-requires returns-2)

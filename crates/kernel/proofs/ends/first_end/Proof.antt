@@ -21,9 +21,6 @@ o s = object (s .args .kind) (s .args .px) (s .args .py) (s .args .qx) (s .args 
 proper : (c : tie.Then2) → Proper (first (o (c .before .before))) (second (o (c .before .before)))
 proper c = accepted-pair (o (c .before .before)) (c .before .before .pre) (eq-left (c .before .if1 .left))
 
-side-begins-requires : tie.Need-side-begins-requires
-side-begins-requires c κs = search needs
-
 returns : tie.Need-returns
 returns c =
     let s = c .before .before in
@@ -49,9 +46,6 @@ returns-2 c =
     ∙ (λ i. farEnd (place (h .small-p) i) ((way (swapped h) ∙ reversed (first (o s)) (second (o s))) i))
     ∙ sym (first-line (o s) three)
 
-given-point-requires : tie.Need-given-point-requires
-given-point-requires c κs = search needs
-
 returns-3 : tie.Need-returns-3
 returns-3 c =
     let s = c .before .before .before in
@@ -63,11 +57,11 @@ pub first-end-spec : {M : Type 1} → statement M
 first-end-spec =
     tie.close
     (tie.spec
-    side-begins-requires
+    (λ c κs. search needs)
     returns
     sub-back
     sub-down
     far-end-requires
     returns-2
-    given-point-requires
+    (λ c κs. search needs)
     returns-3)

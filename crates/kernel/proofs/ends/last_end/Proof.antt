@@ -51,17 +51,11 @@ rem-next c = (omega arith, next-here c .quotient)
 add-next : tie.Need-add-next
 add-next c = next-here c .sum
 
-side-begins-requires : tie.Need-side-begins-requires
-side-begins-requires c κs = search needs
-
 returns : tie.Need-returns
 returns c =
     let s = c .before .before in
     let four = lit-taken 4 tt (s .fits .kind) (c .before .if1 .taken) in
     c .side-begins .ensures ∙ ap begins (next-here (c .before) .is-next) ∙ sym (last-side (o s) four)
-
-given-point-requires : tie.Need-given-point-requires
-given-point-requires c κs = search needs
 
 returns-2 : tie.Need-returns-2
 returns-2 c =
@@ -93,9 +87,9 @@ last-end-spec =
     (tie.spec
     rem-next
     add-next
-    side-begins-requires
+    (λ c κs. search needs)
     returns
-    given-point-requires
+    (λ c κs. search needs)
     returns-2
     sub-dx
     sub-dy

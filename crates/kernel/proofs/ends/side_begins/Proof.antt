@@ -5,26 +5,14 @@ use borrow.Author.Needs.{needs}
 use Rattle.kernel.proofs.ends.side_begins.Statement.{statement}
 use Rattle.kernel.proofs.ends.side_begins.Tie as tie
 
-frame-corner-requires : tie.Need-frame-corner-requires
-frame-corner-requires c κs = search needs
-
 returns : tie.Need-returns
 returns c = c .frame-corner .ensures ∙ sym (ap begins (side-one (c .before .before .fits .n) (c .before .if1 .taken)))
-
-frame-corner-requires-2 : tie.Need-frame-corner-requires-2
-frame-corner-requires-2 c κs = search needs
 
 returns-2 : tie.Need-returns-2
 returns-2 c = c .frame-corner2 .ensures ∙ sym (ap begins (side-two (c .before .before .before .fits .n) (c .before .if2 .taken)))
 
-frame-corner-requires-3 : tie.Need-frame-corner-requires-3
-frame-corner-requires-3 c κs = search needs
-
 returns-3 : tie.Need-returns-3
 returns-3 c = c .frame-corner3 .ensures ∙ sym (ap begins (side-three (c .before .before .before .before .fits .n) (c .before .if3 .taken)))
-
-frame-corner-requires-4 : tie.Need-frame-corner-requires-4
-frame-corner-requires-4 c κs = search needs
 
 returns-4 : tie.Need-returns-4
 returns-4 c = c .frame-corner4 .ensures ∙ sym (ap begins (
@@ -34,11 +22,11 @@ pub side-begins-spec : {M : Type 1} → statement M
 side-begins-spec =
     tie.close
     (tie.spec
-    frame-corner-requires
+    (λ c κs. search needs)
     returns
-    frame-corner-requires-2
+    (λ c κs. search needs)
     returns-2
-    frame-corner-requires-3
+    (λ c κs. search needs)
     returns-3
-    frame-corner-requires-4
+    (λ c κs. search needs)
     returns-4)

@@ -26,9 +26,6 @@ wide c = gave (c .before .abs .ok) (c .before .abs .ensures) ∙ ap size (out-is
 abs-requires : tie.Need-abs-requires
 abs-requires c κs = within-out (c .pre .0 .bdx) tt
 
-sign-requires : tie.Need-sign-requires
-sign-requires c κs = search needs
-
 mul-ny : tie.Need-mul-ny
 mul-ny c = need (factors c) (var 0 ⊗ var 1) tt
 
@@ -53,4 +50,4 @@ returns c =
     ∙ ap divided ((λ i. record { mx = out-is (s .fits .dx) i; nx = pos 0; my = out-is (s .fits .dy) i; ny = n i; w = wide d i }) ∙ sym (flat-is (s .args .dx) (s .args .dy) (s .args .k)))
 
 pub flat-end-spec : {M : Type 1} → statement M
-flat-end-spec = tie.close (tie.spec abs-requires sign-requires mul-ny divide-requires returns)
+flat-end-spec = tie.close (tie.spec abs-requires (λ c κs. search needs) mul-ny divide-requires returns)

@@ -29,12 +29,6 @@ abs-requires c κs = within-out (c .pre .bdx) tt
 abs-requires-2 : tie.Need-abs-requires-2
 abs-requires-2 c κs = within-out (c .before .pre .bdy) tt
 
-sign-requires : tie.Need-sign-requires
-sign-requires c κs = search needs
-
-sign-requires-2 : tie.Need-sign-requires-2
-sign-requires-2 c κs = search needs
-
 mul-tie : tie.Need-mul-tie
 mul-tie c = need (signs c) (var 0 ⊗ var 1) tt
 
@@ -60,4 +54,4 @@ returns c =
 pub is-flat-spec : {M : Type 1} → statement M
 is-flat-spec =
     tie.close
-    (tie.spec abs-requires abs-requires-2 sign-requires sign-requires-2 mul-tie mul-tie-2 returns)
+    (tie.spec abs-requires abs-requires-2 (λ c κs. search needs) (λ c κs. search needs) mul-tie mul-tie-2 returns)

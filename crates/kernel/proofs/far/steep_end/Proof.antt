@@ -26,9 +26,6 @@ wide c = gave (c .before .abs .ok) (c .before .abs .ensures) ∙ ap size (out-is
 abs-requires : tie.Need-abs-requires
 abs-requires c κs = within-out (c .pre .0 .bdy) tt
 
-sign-requires : tie.Need-sign-requires
-sign-requires c κs = search needs
-
 mul-sk : tie.Need-mul-sk
 mul-sk c = need (factors c) (var 0 ⊗ var 1) tt
 
@@ -57,4 +54,4 @@ returns c =
 
 pub steep-end-spec : {M : Type 1} → statement M
 steep-end-spec =
-    tie.close (tie.spec abs-requires sign-requires mul-sk sub-nx divide-requires returns)
+    tie.close (tie.spec abs-requires (λ c κs. search needs) mul-sk sub-nx divide-requires returns)

@@ -7,18 +7,12 @@ use borrow.Author.Needs.{needs}
 use Rattle.kernel.proofs.lead.lead.Statement.{statement}
 use Rattle.kernel.proofs.lead.lead.Tie as tie
 
-sign-requires : tie.Need-sign-requires
-sign-requires c κs = search needs
-
 returns : tie.Need-returns
 returns c =
     let s = c .before .before in
     let zero = lit-taken 0 tt (s .fits .a) (c .before .if1 .taken) in
     out-ok (c .sign .result) (c .sign .ok)
     ∙ simp (c .sign .ensures, out-is, s .fits .b, zero, sgn-zero)
-
-sign-requires-2 : tie.Need-sign-requires-2
-sign-requires-2 c κs = search needs
 
 returns-2 : tie.Need-returns-2
 returns-2 c =
@@ -27,4 +21,4 @@ returns-2 c =
     ∙ sym (first-ne (s .args .a) (sgn (s .args .b)) (eq-left (c .before .if1 .left)))
 
 pub lead-spec : {M : Type 1} → statement M
-lead-spec = tie.close (tie.spec sign-requires returns sign-requires-2 returns-2)
+lead-spec = tie.close (tie.spec (λ c κs. search needs) returns (λ c κs. search needs) returns-2)

@@ -25,21 +25,12 @@ shared s t = say (betweenBy
     (cond (ltZ (s .args .hi) (s .args .high)) (s .args .hi) (s .args .high))
     (cond t (at (s .args .u) (s .args .v)) (at (s .args .x) (s .args .y))))
 
-pick-requires : tie.Need-pick-requires
-pick-requires c κs = search needs
-
-between-requires : tie.Need-between-requires
-between-requires c κs = search needs
-
 returns : tie.Need-returns
 returns c =
     let s = c .before .before .before in
     c .between .ensures
     ∙ (λ i. say (betweenBy (out-is (s .fits .low) i) (stop (c .before .before) i) (at (out-is (s .fits .u) i) (out-is (s .fits .v) i))))
     ∙ sym (ap (shared s) (lt-flag (s .fits .lo) (s .fits .low) (c .before .if1 .taken)))
-
-between-requires-2 : tie.Need-between-requires-2
-between-requires-2 c κs = search needs
 
 returns-2 : tie.Need-returns-2
 returns-2 c =
@@ -50,4 +41,4 @@ returns-2 c =
 
 pub overlap-spec : {M : Type 1} → statement M
 overlap-spec =
-    tie.close (tie.spec pick-requires between-requires returns between-requires-2 returns-2)
+    tie.close (tie.spec (λ c κs. search needs) (λ c κs. search needs) returns (λ c κs. search needs) returns-2)

@@ -103,27 +103,6 @@ mul-alike-2 c = need (c .pre .near) (dyE ⊗ fyE) tt
 add-alike : tie.Need-add-alike
 add-alike c = need (c .pre .near) alikeE tt
 
-sub-pick : tie.Need-sub-pick
-sub-pick c = search needs
-
-pick-requires : tie.Need-pick-requires
-pick-requires c κs = search needs
-
-pick-requires-2 : tie.Need-pick-requires-2
-pick-requires-2 c κs = search needs
-
-sub-pick-2 : tie.Need-sub-pick-2
-sub-pick-2 c = search needs
-
-pick-requires-3 : tie.Need-pick-requires-3
-pick-requires-3 c κs = search needs
-
-pick-requires-4 : tie.Need-pick-requires-4
-pick-requires-4 c κs = search needs
-
-overlap-requires : tie.Need-overlap-requires
-overlap-requires c κs = search needs
-
 returns : tie.Need-returns
 returns c =
     let f = c .before .before .before in
@@ -140,18 +119,6 @@ returns c =
     (limit 1 tt (s .fits .kb) (two .ok) (two .ensures) (gives b (atE 6 7) tt) refl)
     (λ i. at (out-is (s .fits .rx) i) (out-is (s .fits .ry) i))
     (lt-gives b (lit 0) alikeE tt tt (f .if1 .taken)))
-
-sub-pick-3 : tie.Need-sub-pick-3
-sub-pick-3 c = search needs
-
-pick-requires-5 : tie.Need-pick-requires-5
-pick-requires-5 c κs = search needs
-
-pick-requires-6 : tie.Need-pick-requires-6
-pick-requires-6 c κs = search needs
-
-overlap-requires-2 : tie.Need-overlap-requires-2
-overlap-requires-2 c κs = search needs
 
 returns-2 : tie.Need-returns-2
 returns-2 c =
@@ -193,16 +160,16 @@ together-spec =
     mul-alike
     mul-alike-2
     add-alike
-    sub-pick
-    pick-requires
-    pick-requires-2
-    sub-pick-2
-    pick-requires-3
-    pick-requires-4
-    overlap-requires
+    (λ c. search needs)
+    (λ c κs. search needs)
+    (λ c κs. search needs)
+    (λ c. search needs)
+    (λ c κs. search needs)
+    (λ c κs. search needs)
+    (λ c κs. search needs)
     returns
-    sub-pick-3
-    pick-requires-5
-    pick-requires-6
-    overlap-requires-2
+    (λ c. search needs)
+    (λ c κs. search needs)
+    (λ c κs. search needs)
+    (λ c κs. search needs)
     returns-2)

@@ -118,9 +118,6 @@ times-sign-requires-2 c κs =
     let s = c .before in
     record { bz = w-lit (w-is (across-is s) (small (s .pre .0 .near .near) acrossE tt)) tt; not-zero = not-parallel s }
 
-reaches-requires : tie.Need-reaches-requires
-reaches-requires c κs = search needs
-
 returns : tie.Need-returns
 returns c =
     let d = c .before in
@@ -140,9 +137,6 @@ times-sign-requires-3 : tie.Need-times-sign-requires-3
 times-sign-requires-3 c κs =
     let s = start (c .before) in
     record { bz = w-lit (held (s .pre .0 .near .near) twoE tt) tt; not-zero = not-parallel s }
-
-reaches-requires-2 : tie.Need-reaches-requires-2
-reaches-requires-2 c κs = search needs
 
 returns-2 : tie.Need-returns-2
 returns-2 c =
@@ -181,13 +175,13 @@ skewed-spec =
     sub-one
     times-sign-requires
     times-sign-requires-2
-    reaches-requires
+    (λ c κs. search needs)
     returns
     mul-two
     mul-two-2
     sub-two
     times-sign-requires-3
-    reaches-requires-2
+    (λ c κs. search needs)
     returns-2
     meeting-point-requires
     returns-3)

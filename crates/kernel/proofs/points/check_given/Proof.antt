@@ -5,13 +5,10 @@ use borrow.Author.Needs.{needs}
 use Rattle.kernel.proofs.points.check_given.Statement.{statement}
 use Rattle.kernel.proofs.points.check_given.Tie as tie
 
-is-given-requires : tie.Need-is-given-requires
-is-given-requires c κs = search needs
-
 returns : tie.Need-returns
 returns c =
     let s = c .before .before .before .before .before in
     c .is-given .ensures ∙ ap isGiven (handed.point-told (s .before .args .p) (s .struct-told .given))
 
 pub check-given-spec : {M : Type 1} → statement M
-check-given-spec = tie.close (tie.spec is-given-requires returns)
+check-given-spec = tie.close (tie.spec (λ c κs. search needs) returns)

@@ -5,13 +5,10 @@ use borrow.Author.Needs.{needs}
 use Rattle.kernel.proofs.points.check_narrow.Statement.{statement}
 use Rattle.kernel.proofs.points.check_narrow.Tie as tie
 
-is-narrow-requires : tie.Need-is-narrow-requires
-is-narrow-requires c κs = search needs
-
 returns : tie.Need-returns
 returns c =
     let s = c .before .before .before .before .before in
     c .is-narrow .ensures ∙ ap narrow (handed.point-told (s .before .args .p) (s .struct-told .given))
 
 pub check-narrow-spec : {M : Type 1} → statement M
-check-narrow-spec = tie.close (tie.spec is-narrow-requires returns)
+check-narrow-spec = tie.close (tie.spec (λ c κs. search needs) returns)

@@ -10,9 +10,6 @@ test c =
     let s = c .before .before .before .before .before in
     c .is-point .ensures ∙ ap isPoint (handed.point-told (s .before .args .p) (s .struct-told .given))
 
-is-point-requires : tie.Need-is-point-requires
-is-point-requires c κs = search needs
-
 returns : tie.Need-returns
 unfolding pointRefusal
 returns c = simp (sym (test (c .before)) ∙ c .if1 .taken)
@@ -22,4 +19,4 @@ unfolding pointRefusal
 returns-2 c = simp (sym (test (c .before)) ∙ c .if1 .left)
 
 pub check-point-spec : {M : Type 1} → statement M
-check-point-spec = tie.close (tie.spec is-point-requires returns returns-2)
+check-point-spec = tie.close (tie.spec (λ c κs. search needs) returns returns-2)

@@ -5,13 +5,10 @@ use borrow.Author.Needs.{needs}
 use Rattle.kernel.proofs.points.check_standard.Statement.{statement}
 use Rattle.kernel.proofs.points.check_standard.Tie as tie
 
-is-standard-requires : tie.Need-is-standard-requires
-is-standard-requires c κs = search needs
-
 returns : tie.Need-returns
 returns c =
     let s = c .before .before .before .before .before in
     c .is-standard .ensures ∙ ap standard (handed.point-told (s .before .args .p) (s .struct-told .given))
 
 pub check-standard-spec : {M : Type 1} → statement M
-check-standard-spec = tie.close (tie.spec is-standard-requires returns)
+check-standard-spec = tie.close (tie.spec (λ c κs. search needs) returns)

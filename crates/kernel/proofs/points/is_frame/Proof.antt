@@ -40,9 +40,6 @@ frame-rest :
 unfolding frame
 frame-rest p h = simp h
 
-is-narrow-requires : tie.Need-is-narrow-requires
-is-narrow-requires c κs = search needs
-
 returns : tie.Need-returns
 unfolding frame
 returns c = simp (sym (test (c .before)) ∙ not-true (c .before .is-narrow .result) (c .if1 .taken))
@@ -52,18 +49,6 @@ cast-full c =
     let s = c .before .before in
     let w = out-is (s .fits .w) ∙ nn-size (<-≤ (above c)) in
     subst (λ (z : ℤ). T (nonNeg z) × Fits w64 (natAbs z)) (sym w) (tt, record { fits = omega (arith, of-fits (s .fits .w) .within) })
-
-is-edge-requires : tie.Need-is-edge-requires
-is-edge-requires c κs = search needs
-
-is-edge-requires-2 : tie.Need-is-edge-requires-2
-is-edge-requires-2 c κs = search needs
-
-is-in-square-requires : tie.Need-is-in-square-requires
-is-in-square-requires c κs = search needs
-
-is-in-square-requires-2 : tie.Need-is-in-square-requires-2
-is-in-square-requires-2 c κs = search needs
 
 returns-2 : tie.Need-returns-2
 returns-2 c =
@@ -84,11 +69,11 @@ pub is-frame-spec : {M : Type 1} → statement M
 is-frame-spec =
     tie.close
     (tie.spec
-    is-narrow-requires
+    (λ c κs. search needs)
     returns
     cast-full
-    is-edge-requires
-    is-edge-requires-2
-    is-in-square-requires
-    is-in-square-requires-2
+    (λ c κs. search needs)
+    (λ c κs. search needs)
+    (λ c κs. search needs)
+    (λ c κs. search needs)
     returns-2)

@@ -15,15 +15,6 @@ use Rattle.kernel.proofs.points.is_in_square.Tie as tie
 one : (c : tie.After-sign2) → Within 1 (c .sign2 .result)
 one c = w-is (c .sign2 .ensures) (w-sgn _)
 
-size-requires : tie.Need-size-requires
-size-requires c κs = search needs
-
-sign-requires : tie.Need-sign-requires
-sign-requires c κs = search needs
-
-sign-requires-2 : tie.Need-sign-requires-2
-sign-requires-2 c κs = search needs
-
 sub-inward : tie.Need-sub-inward
 sub-inward c = need (one c also none) (lit 0 ⊖ var 0) tt
 
@@ -45,4 +36,4 @@ returns c =
 
 pub is-in-square-spec : {M : Type 1} → statement M
 is-in-square-spec =
-    tie.close (tie.spec size-requires sign-requires sign-requires-2 sub-inward returns)
+    tie.close (tie.spec (λ c κs. search needs) (λ c κs. search needs) (λ c κs. search needs) sub-inward returns)

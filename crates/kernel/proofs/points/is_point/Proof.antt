@@ -4,15 +4,6 @@ use borrow.Author.Needs.{needs}
 use Rattle.kernel.proofs.points.is_point.Statement.{statement}
 use Rattle.kernel.proofs.points.is_point.Tie as tie
 
-is-standard-requires : tie.Need-is-standard-requires
-is-standard-requires c κs = search needs
-
-is-frame-requires : tie.Need-is-frame-requires
-is-frame-requires c κs = search needs
-
-divisor-requires : tie.Need-divisor-requires
-divisor-requires c κs = search needs
-
 returns : tie.Need-returns
 unfolding isPoint
 returns c =
@@ -31,4 +22,4 @@ returns c =
 
 pub is-point-spec : {M : Type 1} → statement M
 is-point-spec =
-    tie.close (tie.spec is-standard-requires is-frame-requires divisor-requires returns)
+    tie.close (tie.spec (λ c κs. search needs) (λ c κs. search needs) (λ c κs. search needs) returns)

@@ -4,18 +4,6 @@ use borrow.Author.Needs.{needs}
 use Rattle.kernel.proofs.points.is_standard.Statement.{statement}
 use Rattle.kernel.proofs.points.is_standard.Tie as tie
 
-sub-is-between : tie.Need-sub-is-between
-sub-is-between c = search needs
-
-is-between-requires : tie.Need-is-between-requires
-is-between-requires c κs = search needs
-
-sub-is-between-2 : tie.Need-sub-is-between-2
-sub-is-between-2 c = search needs
-
-is-between-requires-2 : tie.Need-is-between-requires-2
-is-between-requires-2 c κs = search needs
-
 returns : tie.Need-returns
 unfolding standard
 returns c =
@@ -25,4 +13,4 @@ returns c =
 pub is-standard-spec : {M : Type 1} → statement M
 is-standard-spec =
     tie.close
-    (tie.spec sub-is-between is-between-requires sub-is-between-2 is-between-requires-2 returns)
+    (tie.spec (λ c. search needs) (λ c κs. search needs) (λ c. search needs) (λ c κs. search needs) returns)

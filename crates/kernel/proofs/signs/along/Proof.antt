@@ -38,13 +38,10 @@ mul-b-2 c = need (six c) (var 4 ⊗ var 2) tt
 sub-b : tie.Need-sub-b
 sub-b c = need (six c) bE tt
 
-lead-requires : tie.Need-lead-requires
-lead-requires c κs = search needs
-
 returns : tie.Need-returns
 returns c =
     let s = c .before in
     lead-is (c .lead .ok) (c .lead .ensures) (gives (six s) aE tt) (gives (six s) bE tt)
 
 pub along-spec : {M : Type 1} → statement M
-along-spec = tie.close (tie.spec mul-a mul-a-2 sub-a mul-b mul-b-2 sub-b lead-requires returns)
+along-spec = tie.close (tie.spec mul-a mul-a-2 sub-a mul-b mul-b-2 sub-b (λ c κs. search needs) returns)

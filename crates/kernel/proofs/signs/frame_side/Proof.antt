@@ -28,9 +28,6 @@ five s = s .pre .0 .bm also s .pre .0 .bn also s .pre .1 .bm also s .pre .1 .bn 
 add-lead : tie.Need-add-lead
 add-lead c = need (five (c .before)) (var 0 ⊕ var 4) tt
 
-lead-requires : tie.Need-lead-requires
-lead-requires c κs = search needs
-
 returns : tie.Need-returns
 returns c =
     let s = c .before .before in
@@ -39,9 +36,6 @@ returns c =
 
 add-lead-2 : tie.Need-add-lead-2
 add-lead-2 c = need (five (c .before .before)) (var 2 ⊕ var 4) tt
-
-lead-requires-2 : tie.Need-lead-requires-2
-lead-requires-2 c κs = search needs
 
 returns-2 : tie.Need-returns-2
 returns-2 c =
@@ -55,9 +49,6 @@ sub-lead c = need (five (c .before .before .before)) (var 4 ⊖ var 0) tt
 sub-lead-2 : tie.Need-sub-lead-2
 sub-lead-2 c = need (five (c .before .before .before)) (lit 0 ⊖ var 1) tt
 
-lead-requires-3 : tie.Need-lead-requires-3
-lead-requires-3 c κs = search needs
-
 returns-3 : tie.Need-returns-3
 returns-3 c =
     let s = c .before .before .before .before in
@@ -70,9 +61,6 @@ sub-lead-3 c = need (five (c .before .before .before)) (var 4 ⊖ var 2) tt
 sub-lead-4 : tie.Need-sub-lead-4
 sub-lead-4 c = need (five (c .before .before .before)) (lit 0 ⊖ var 3) tt
 
-lead-requires-4 : tie.Need-lead-requires-4
-lead-requires-4 c κs = search needs
-
 returns-4 : tie.Need-returns-4
 returns-4 c =
     let s = c .before .before .before .before in
@@ -84,16 +72,16 @@ frame-side-spec =
     tie.close
     (tie.spec
     add-lead
-    lead-requires
+    (λ c κs. search needs)
     returns
     add-lead-2
-    lead-requires-2
+    (λ c κs. search needs)
     returns-2
     sub-lead
     sub-lead-2
-    lead-requires-3
+    (λ c κs. search needs)
     returns-3
     sub-lead-3
     sub-lead-4
-    lead-requires-4
+    (λ c κs. search needs)
     returns-4)

@@ -14,9 +14,6 @@ order-x-requires c κs = c .pre
 order-y-requires : tie.Need-order-y-requires
 order-y-requires c κs = c .before .pre
 
-lead-requires : tie.Need-lead-requires
-lead-requires c κs = search needs
-
 returns : tie.Need-returns
 returns c =
     let s = c .before .before .before in
@@ -27,4 +24,4 @@ returns c =
     ∙ sym (order-is (s .args .p) (s .args .q))
 
 pub order-of-spec : {M : Type 1} → statement M
-order-of-spec = tie.close (tie.spec order-x-requires order-y-requires lead-requires returns)
+order-of-spec = tie.close (tie.spec order-x-requires order-y-requires (λ c κs. search needs) returns)

@@ -19,15 +19,6 @@ refusal c =
 passed : (c : tie.Else1) → orderRefusal (c .before .before .before .before .args .p) (c .before .before .before .before .args .q) ≡ pos 0
 passed c = not-refused (c .before .or-else .ok) (refusal (c .before)) (c .if1 .left)
 
-check-point-requires : tie.Need-check-point-requires
-check-point-requires c κs = search needs
-
-check-point-requires-2 : tie.Need-check-point-requires-2
-check-point-requires-2 c κs = search needs
-
-or-else-requires : tie.Need-or-else-requires
-or-else-requires c κs = search needs
-
 returns : tie.Need-returns
 returns c = says-refused _ (fits-ok (c .before .or-else .result) (c .before .or-else .ok)) (refusal (c .before)) (c .if1 .taken)
 
@@ -42,9 +33,9 @@ pub order-points-spec : {M : Type 1} → statement M
 order-points-spec =
     tie.close
     (tie.spec
-    check-point-requires
-    check-point-requires-2
-    or-else-requires
+    (λ c κs. search needs)
+    (λ c κs. search needs)
+    (λ c κs. search needs)
     returns
     order-of-requires
     returns-2)

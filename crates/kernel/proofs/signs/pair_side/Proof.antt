@@ -64,9 +64,6 @@ mul-c-3 c = need (nine c) (var 8 ⊗ kE) tt
 sub-c-2 : tie.Need-sub-c-2
 sub-c-2 c = need (nine c) cE tt
 
-lead-requires : tie.Need-lead-requires
-lead-requires c κs = search needs
-
 returns : tie.Need-returns
 returns c =
     let s = c .before in
@@ -89,5 +86,5 @@ pair-side-spec =
     sub-c
     mul-c-3
     sub-c-2
-    lead-requires
+    (λ c κs. search needs)
     returns)

@@ -19,15 +19,6 @@ refusal c =
 passed : (c : tie.Else1) → sideSignRefusal (c .before .before .before .before .args .o) (c .before .before .before .before .args .s) ≡ pos 0
 passed c = not-refused (c .before .or-else .ok) (refusal (c .before)) (c .if1 .left)
 
-object-refusal-requires : tie.Need-object-refusal-requires
-object-refusal-requires c κs = search needs
-
-check-point-requires : tie.Need-check-point-requires
-check-point-requires c κs = search needs
-
-or-else-requires : tie.Need-or-else-requires
-or-else-requires c κs = search needs
-
 returns : tie.Need-returns
 returns c = says-refused _ (fits-ok (c .before .or-else .result) (c .before .or-else .ok)) (refusal (c .before)) (c .if1 .taken)
 
@@ -42,9 +33,9 @@ pub side-of-spec : {M : Type 1} → statement M
 side-of-spec =
     tie.close
     (tie.spec
-    object-refusal-requires
-    check-point-requires
-    or-else-requires
+    (λ c κs. search needs)
+    (λ c κs. search needs)
+    (λ c κs. search needs)
     returns
     side-sign-requires
     returns-2)

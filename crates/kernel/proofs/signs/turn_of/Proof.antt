@@ -39,12 +39,6 @@ add-b c = need (parts c) (var 0 ⊕ var 1) tt
 turn-c-requires : tie.Need-turn-c-requires
 turn-c-requires c κs = c .before .before .before .pre
 
-lead-requires : tie.Need-lead-requires
-lead-requires c κs = search needs
-
-lead-requires-2 : tie.Need-lead-requires-2
-lead-requires-2 c κs = search needs
-
 returns : tie.Need-returns
 returns c =
     let t = c .before .before .before in
@@ -68,6 +62,6 @@ turn-of-spec =
     turn-nm-requires
     add-b
     turn-c-requires
-    lead-requires
-    lead-requires-2
+    (λ c κs. search needs)
+    (λ c κs. search needs)
     returns)

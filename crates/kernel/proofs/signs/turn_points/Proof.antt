@@ -12,9 +12,6 @@ use Rattle.kernel.proofs.signs.turn_points.Tie as tie
 passed : (c : tie.Else1) → turnRefusal (c .before .before .args .p) (c .before .before .args .q) (c .before .before .args .s) ≡ pos 0
 passed c = let r = c .before .turn-refusal in not-refused (r .ok) (r .ensures) (c .if1 .left)
 
-turn-refusal-requires : tie.Need-turn-refusal-requires
-turn-refusal-requires c κs = search needs
-
 returns : tie.Need-returns
 returns c = says-refused _ (fits-ok (c .before .turn-refusal .result) (c .before .turn-refusal .ok)) (c .before .turn-refusal .ensures) (c .if1 .taken)
 
@@ -26,4 +23,4 @@ returns-2 c =
     (λ i. pos 0 ∷ (gave (c .turn-of .ok) (c .turn-of .ensures)) i ∷ []) ∙ sym (accepted _ (passed (c .before)))
 
 pub turn-points-spec : {M : Type 1} → statement M
-turn-points-spec = tie.close (tie.spec turn-refusal-requires returns turn-of-requires returns-2)
+turn-points-spec = tie.close (tie.spec (λ c κs. search needs) returns turn-of-requires returns-2)

@@ -5,27 +5,6 @@ use borrow.Author.Needs.{needs}
 use Rattle.kernel.proofs.signs.turn_refusal.Statement.{statement}
 use Rattle.kernel.proofs.signs.turn_refusal.Tie as tie
 
-check-point-requires : tie.Need-check-point-requires
-check-point-requires c κs = search needs
-
-wide-refusal-requires : tie.Need-wide-refusal-requires
-wide-refusal-requires c κs = search needs
-
-or-else-requires : tie.Need-or-else-requires
-or-else-requires c κs = search needs
-
-check-point-requires-2 : tie.Need-check-point-requires-2
-check-point-requires-2 c κs = search needs
-
-check-point-requires-3 : tie.Need-check-point-requires-3
-check-point-requires-3 c κs = search needs
-
-or-else-requires-2 : tie.Need-or-else-requires-2
-or-else-requires-2 c κs = search needs
-
-or-else-requires-3 : tie.Need-or-else-requires-3
-or-else-requires-3 c κs = search needs
-
 returns : tie.Need-returns
 unfolding turnRefusal
 returns c =
@@ -46,11 +25,11 @@ pub turn-refusal-spec : {M : Type 1} → statement M
 turn-refusal-spec =
     tie.close
     (tie.spec
-    check-point-requires
-    wide-refusal-requires
-    or-else-requires
-    check-point-requires-2
-    check-point-requires-3
-    or-else-requires-2
-    or-else-requires-3
+    (λ c κs. search needs)
+    (λ c κs. search needs)
+    (λ c κs. search needs)
+    (λ c κs. search needs)
+    (λ c κs. search needs)
+    (λ c κs. search needs)
+    (λ c κs. search needs)
     returns)

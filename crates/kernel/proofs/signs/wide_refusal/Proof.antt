@@ -11,15 +11,6 @@ test :
     ≡ narrow (c .before .before .before .args .p) && narrow (c .before .before .before .args .q) && narrow (c .before .before .before .args .s)
 test c = simp (c .before .before .check-narrow .ensures, c .before .check-narrow2 .ensures, c .check-narrow3 .ensures)
 
-check-narrow-requires : tie.Need-check-narrow-requires
-check-narrow-requires c κs = search needs
-
-check-narrow-requires-2 : tie.Need-check-narrow-requires-2
-check-narrow-requires-2 c κs = search needs
-
-check-narrow-requires-3 : tie.Need-check-narrow-requires-3
-check-narrow-requires-3 c κs = search needs
-
 returns : tie.Need-returns
 returns c = simp (sym (test (c .before)) ∙ c .if1 .taken)
 
@@ -30,8 +21,8 @@ pub wide-refusal-spec : {M : Type 1} → statement M
 wide-refusal-spec =
     tie.close
     (tie.spec
-    check-narrow-requires
-    check-narrow-requires-2
-    check-narrow-requires-3
+    (λ c κs. search needs)
+    (λ c κs. search needs)
+    (λ c κs. search needs)
     returns
     returns-2)

@@ -29,9 +29,6 @@ numbers a b t k = ring (a ∷ b ∷ t ∷ k ∷ []) (var 0 ⊗ (lit 0 ⊖ var 2 
 abs-requires : tie.Need-abs-requires
 abs-requires c κs = held (lengths (c .pre)) (var 3) tt
 
-sign-requires : tie.Need-sign-requires
-sign-requires c κs = search needs
-
 mul-m : tie.Need-mul-m
 mul-m c = need (lengths (c .before .before .pre)) (var 0 ⊗ var 2) tt
 
@@ -67,4 +64,4 @@ returns c =
 
 pub is-on-steep-spec : {M : Type 1} → statement M
 is-on-steep-spec =
-    tie.close (tie.spec abs-requires sign-requires mul-m mul-m-2 add-m mul-n sub-n mul-n-2 returns)
+    tie.close (tie.spec abs-requires (λ c κs. search needs) mul-m mul-m-2 add-m mul-n sub-n mul-n-2 returns)

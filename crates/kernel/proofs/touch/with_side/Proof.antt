@@ -55,18 +55,6 @@ returns c =
     let s = c .before in
     sym (ap say (with-segment (sideOf (s .args .n)) (o s) (lit-taken 1 tt (s .fits .kind) (c .if1 .taken))))
 
-out-x-requires : tie.Need-out-x-requires
-out-x-requires c κs = search needs
-
-out-y-requires : tie.Need-out-y-requires
-out-y-requires c κs = search needs
-
-out-x-requires-2 : tie.Need-out-x-requires-2
-out-x-requires-2 c κs = search needs
-
-out-y-requires-2 : tie.Need-out-y-requires-2
-out-y-requires-2 c κs = search needs
-
 sides-requires : tie.Need-sides-requires
 sides-requires c κs =
     let t = c .before .before in
@@ -119,10 +107,10 @@ with-side-spec =
     tie.close
     (tie.spec
     returns
-    out-x-requires
-    out-y-requires
-    out-x-requires-2
-    out-y-requires-2
+    (λ c κs. search needs)
+    (λ c κs. search needs)
+    (λ c κs. search needs)
+    (λ c κs. search needs)
     sides-requires
     returns-2
     sub-dx

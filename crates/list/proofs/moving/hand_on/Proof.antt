@@ -17,20 +17,8 @@ abbrev μ-loop : tie.MeasureT-loop
 loop-holds : tie.Need-loop-holds Inv-loop μ-loop
 loop-holds c = omega arith
 
-write-rest-requires : tie.Need-write-rest-requires Inv-loop μ-loop
-write-rest-requires c κs = search needs
-
-goes-on-requires : tie.Need-goes-on-requires Inv-loop μ-loop
-goes-on-requires c κs = search needs
-
-fail-text-requires : tie.Need-fail-text-requires Inv-loop μ-loop
-fail-text-requires c κs = search needs
-
 sub-turns : tie.Need-sub-turns Inv-loop μ-loop
 sub-turns c = omega arith
-
-after-requires : tie.Need-after-requires Inv-loop μ-loop
-after-requires c κs = search needs
 
 loop-less : tie.Need-loop-less Inv-loop μ-loop
 loop-less c = omega arith
@@ -48,11 +36,11 @@ hand-on-spec =
     Inv-loop
     μ-loop
     loop-holds
-    write-rest-requires
-    goes-on-requires
-    fail-text-requires
+    (λ c κs. search needs)
+    (λ c κs. search needs)
+    (λ c κs. search needs)
     sub-turns
-    after-requires
+    (λ c κs. search needs)
     loop-less
     loop-again
     returns)

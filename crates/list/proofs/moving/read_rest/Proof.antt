@@ -6,21 +6,6 @@ use Rattle.list.specs.MovingLaws.{rest-moved}
 use Rattle.list.proofs.moving.read_rest.Statement.{statement}
 use Rattle.list.proofs.moving.read_rest.Tie as tie
 
-sub-read : tie.Need-sub-read
-sub-read c = search needs
-
-part-read-start : tie.Need-part-read-start
-part-read-start c = search needs
-
-part-read-end : tie.Need-part-read-end
-part-read-end c = search needs
-
-read-requires : tie.Need-read-requires
-read-requires c κs = search needs
-
-same-length : tie.Need-same-length
-same-length c = search needs
-
 returns : tie.Need-returns
 returns c =
     let s = c .before .before .before .before .before in
@@ -29,4 +14,4 @@ returns c =
 
 pub read-rest-spec : {M : Type 1} → statement M
 read-rest-spec =
-    tie.close (tie.spec sub-read part-read-start part-read-end read-requires same-length returns)
+    tie.close (tie.spec (λ c. search needs) (λ c. search needs) (λ c. search needs) (λ c κs. search needs) (λ c. search needs) returns)

@@ -6,18 +6,6 @@ use Rattle.list.specs.MovingLaws.{rest-moved}
 use Rattle.list.proofs.moving.write_rest.Statement.{statement}
 use Rattle.list.proofs.moving.write_rest.Tie as tie
 
-sub-write : tie.Need-sub-write
-sub-write c = search needs
-
-part-write-start : tie.Need-part-write-start
-part-write-start c = search needs
-
-part-write-end : tie.Need-part-write-end
-part-write-end c = search needs
-
-write-requires : tie.Need-write-requires
-write-requires c κs = search needs
-
 returns : tie.Need-returns
 returns c =
     let s = c .before .before .before in
@@ -26,4 +14,4 @@ returns c =
 
 pub write-rest-spec : {M : Type 1} → statement M
 write-rest-spec =
-    tie.close (tie.spec sub-write part-write-start part-write-end write-requires returns)
+    tie.close (tie.spec (λ c. search needs) (λ c. search needs) (λ c. search needs) (λ c κs. search needs) returns)

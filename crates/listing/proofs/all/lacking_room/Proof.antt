@@ -22,9 +22,6 @@ returns c =
     let l = c .before .args .list .now in
     lacks-none (sharing l) (c .before .args .room) (omega (arith, rows-most l, length-rows l))
 
-size-of-rows-requires : tie.Need-size-of-rows-requires
-size-of-rows-requires c κs = search needs
-
 returns-2 : tie.Need-returns-2
 returns-2 c =
     let s = c .before .before .before in
@@ -46,6 +43,6 @@ lacking-room-spec =
     sub-pairs
     mul-every
     returns
-    size-of-rows-requires
+    (λ c κs. search needs)
     returns-2
     returns-3)

@@ -27,12 +27,6 @@ put-rows-with-requires c κs =
       omega (arith, s .pre .1, inv .1 .place, wrote-length (inv .1), first-rows-room (s .args .list .now) (at .loop .i) (omega arith)),
     )
 
-add-i : tie.Need-add-i Inv-loop μ-loop
-add-i c = search needs
-
-loop-less : tie.Need-loop-less Inv-loop μ-loop
-loop-less c = search needs
-
 loop-again : tie.Need-loop-again Inv-loop μ-loop
 loop-again c =
     let at = c .before .before .before .before in
@@ -57,8 +51,8 @@ put-rows-spec =
     μ-loop
     loop-holds
     put-rows-with-requires
-    add-i
-    loop-less
+    (λ c. search needs)
+    (λ c. search needs)
     loop-again
     same-length
     returns)

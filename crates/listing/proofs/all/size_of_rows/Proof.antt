@@ -36,12 +36,6 @@ add-size c =
     let l = at .before .args .list .now in
     omega (arith, at .loop .inv .1, c .size-with .ensures, first-rows-room l (at .loop .i) (omega arith), rows-most l, square-most (at .before .pre .few))
 
-add-i : tie.Need-add-i Inv-loop μ-loop
-add-i c = search needs
-
-loop-less : tie.Need-loop-less Inv-loop μ-loop
-loop-less c = search needs
-
 loop-again : tie.Need-loop-again Inv-loop μ-loop
 loop-again c = (omega arith, next c)
 
@@ -60,7 +54,7 @@ size-of-rows-spec =
     loop-holds
     size-with-requires
     add-size
-    add-i
-    loop-less
+    (λ c. search needs)
+    (λ c. search needs)
     loop-again
     returns)

@@ -6,9 +6,6 @@ use borrow.Author.Needs.{needs}
 use Rattle.listing.proofs.objects.index_refusal.Statement.{statement}
 use Rattle.listing.proofs.objects.index_refusal.Tie as tie
 
-list-refusal-requires : tie.Need-list-refusal-requires
-list-refusal-requires c κs = search needs
-
 returns : tie.Need-returns
 returns c =
     let r = c .before .list-refusal in
@@ -25,4 +22,4 @@ returns-3 c =
     sym (refused-next _ (fits-ok (r .result) (r .ok)) (r .ensures) (c .before .if1 .left) ∙ simp (le-ltb _ _ (c .if2 .left)))
 
 pub index-refusal-spec : {M : Type 1} → statement M
-index-refusal-spec = tie.close (tie.spec list-refusal-requires returns returns-2 returns-3)
+index-refusal-spec = tie.close (tie.spec (λ c κs. search needs) returns returns-2 returns-3)

@@ -7,24 +7,12 @@ use borrow.Author.Needs.{needs}
 use Rattle.listing.proofs.rows.lacking_with.Statement.{statement}
 use Rattle.listing.proofs.rows.lacking_with.Tie as tie
 
-add-later : tie.Need-add-later
-add-later c = search needs
-
-sub-later : tie.Need-sub-later
-sub-later c = search needs
-
-mul-every : tie.Need-mul-every
-mul-every c = search needs
-
 returns : tie.Need-returns
 returns c =
     let s = c .before in
     let l = s .args .list .now in
     let i = s .args .i in
     lacks-none (sharingWith l i) (s .args .room) (omega (arith, rows-with-most l i, length-rows-with l i (s .pre .1)))
-
-size-with-requires : tie.Need-size-with-requires
-size-with-requires c κs = search needs
 
 returns-2 : tie.Need-returns-2
 returns-2 c =
@@ -45,10 +33,10 @@ pub lacking-with-spec : {M : Type 1} → statement M
 lacking-with-spec =
     tie.close
     (tie.spec
-    add-later
-    sub-later
-    mul-every
+    (λ c. search needs)
+    (λ c. search needs)
+    (λ c. search needs)
     returns
-    size-with-requires
+    (λ c κs. search needs)
     returns-2
     returns-3)

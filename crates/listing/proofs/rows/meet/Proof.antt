@@ -12,9 +12,6 @@ use Rattle.listing.proofs.rows.meet.Tie as tie
 object-at-requires : tie.Need-object-at-requires
 object-at-requires c κs = c .pre .1 .1
 
-cross-requires : tie.Need-cross-requires
-cross-requires c κs = search needs
-
 returns : tie.Need-returns
 returns c =
     let s = c .before .before in
@@ -27,4 +24,4 @@ returns c =
     ∙ accepted _ (taken-cross (s .pre .0) (s .pre .1 .0 .each j (s .pre .1 .1))))
 
 pub meet-spec : {M : Type 1} → statement M
-meet-spec = tie.close (tie.spec object-at-requires cross-requires returns)
+meet-spec = tie.close (tie.spec object-at-requires (λ c κs. search needs) returns)

@@ -22,9 +22,6 @@ meet-requires c κs =
     let p = c .pre .0 in
     (subst Accepted (sym (p .1)) (p .0 .list .each (c .args .i) (p .0 .one)), (p .0 .list, p .0 .two))
 
-enum-known-p : tie.Need-enum-known-p
-enum-known-p c = search needs
-
 -- what the two share: object i is the one that was handed in
 met : (c : tie.After-meet) → meetingBy (c .meet .result) ≡ meetingOf (c .before .args .list .now) (c .before .args .i) (c .before .args .j)
 unfolding meetingOf
@@ -49,9 +46,6 @@ write-row-requires c κs =
     ap (λ (m : Meeting). length (rowBy (s .args .i) (s .args .j) m)) (met-once (k .before)) in
     (omega (arith, s .pre .1), (omega (arith, s .pre .0 .0 .list .few, s .pre .0 .0 .one), omega (arith, s .pre .0 .0 .list .few, s .pre .0 .0 .two)))
 
-same-length : tie.Need-same-length
-same-length c = search needs
-
 returns : tie.Need-returns
 returns c =
     let w = c .before .write-row in
@@ -62,9 +56,6 @@ returns c =
     let same = handed.point-told p t in
     wrote-as (w .ensures) (ap (λ (q : Point). pos (s .args .i) ∷ pos (s .args .j) ∷ pos 1 ∷ numbers q) same ∙ ap (rowBy (s .args .i) (s .args .j)) (met-once (k .before)))
 
-enum-told : tie.Need-enum-told
-enum-told c = search needs
-
 write-row-requires-2 : tie.Need-write-row-requires-2
 write-row-requires-2 c κs =
     let s = c .before .before .before .before in
@@ -72,24 +63,15 @@ write-row-requires-2 c κs =
     ap (λ (m : Meeting). length (rowBy (s .args .i) (s .args .j) m)) (met-many (c .before)) in
     (omega (arith, s .pre .1), (omega (arith, s .pre .0 .0 .list .few, s .pre .0 .0 .one), omega (arith, s .pre .0 .0 .list .few, s .pre .0 .0 .two)))
 
-same-length-2 : tie.Need-same-length-2
-same-length-2 c = search needs
-
 returns-2 : tie.Need-returns-2
 returns-2 c =
     let s = c .before .before .before .before .before .before in
     wrote-as (c .before .write-row2 .ensures) (ap (rowBy (s .args .i) (s .args .j)) (met-many (c .before .before .before)))
 
-enum-told-2 : tie.Need-enum-told-2
-enum-told-2 c = search needs
-
 returns-3 : tie.Need-returns-3
 returns-3 c =
     let s = c .before .before .before in
     wrote-as wrote-none (ap (rowBy (s .args .i) (s .args .j)) (sym (ap meetingBy (c .enum-told2 .given .1)) ∙ met (c .before .before)))
-
-enum-told-3 : tie.Need-enum-told-3
-enum-told-3 c = search needs
 
 returns-4 : tie.Need-returns-4
 returns-4 c =
@@ -101,15 +83,15 @@ put-row-spec =
     tie.close
     (tie.spec
     meet-requires
-    enum-known-p
+    (λ c. search needs)
     write-row-requires
-    same-length
+    (λ c. search needs)
     returns
-    enum-told
+    (λ c. search needs)
     write-row-requires-2
-    same-length-2
+    (λ c. search needs)
     returns-2
-    enum-told-2
+    (λ c. search needs)
     returns-3
-    enum-told-3
+    (λ c. search needs)
     returns-4)

@@ -18,9 +18,6 @@ abbrev μ-loop : tie.MeasureT-loop
 object-at-requires : tie.Need-object-at-requires Inv-loop μ-loop
 object-at-requires c κs = c .pre .0 .1
 
-add-j : tie.Need-add-j Inv-loop μ-loop
-add-j c = search needs
-
 loop-holds : tie.Need-loop-holds Inv-loop μ-loop
 loop-holds c =
     let s = c .before in
@@ -34,12 +31,6 @@ put-row-requires c κs =
       (record { list = s .pre .0 .0; one = s .pre .0 .1; two = omega arith }, at .before .object-at .ensures),
       omega (arith, s .pre .1, inv .2 .place, wrote-length (inv .2), rows-room (s .args .list .now) (s .args .i) (at .loop .j) (inv .0) (omega arith)),
     )
-
-add-j-2 : tie.Need-add-j-2 Inv-loop μ-loop
-add-j-2 c = search needs
-
-loop-less : tie.Need-loop-less Inv-loop μ-loop
-loop-less c = search needs
 
 loop-again : tie.Need-loop-again Inv-loop μ-loop
 loop-again c =
@@ -67,11 +58,11 @@ put-rows-with-spec =
     Inv-loop
     μ-loop
     object-at-requires
-    add-j
+    (λ c. search needs)
     loop-holds
     put-row-requires
-    add-j-2
-    loop-less
+    (λ c. search needs)
+    (λ c. search needs)
     loop-again
     same-length
     returns)

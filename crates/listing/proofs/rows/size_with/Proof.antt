@@ -4,16 +4,10 @@ use Rattle.listing.specs.RowsLaws.{rows-with-most}
 use Rattle.listing.proofs.rows.size_with.Statement.{statement}
 use Rattle.listing.proofs.rows.size_with.Tie as tie
 
-slice-aggregate-put-rows-with : tie.Need-slice-aggregate-put-rows-with
-slice-aggregate-put-rows-with c = search needs
-
 put-rows-with-requires : tie.Need-put-rows-with-requires
 put-rows-with-requires c κs =
     let s = c .before in
     (s .pre, omega (arith, rows-with-most (s .args .list .now) (s .args .i), s .pre .0 .few, s .pre .1))
 
-returns : tie.Need-returns
-returns c = search needs
-
 pub size-with-spec : {M : Type 1} → statement M
-size-with-spec = tie.close (tie.spec slice-aggregate-put-rows-with put-rows-with-requires returns)
+size-with-spec = tie.close (tie.spec (λ c. search needs) put-rows-with-requires (λ c. search needs))

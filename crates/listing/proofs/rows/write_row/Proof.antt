@@ -12,83 +12,26 @@ use borrow.Author.Needs.{needs}
 use Rattle.listing.proofs.rows.write_row.Statement.{statement}
 use Rattle.listing.proofs.rows.write_row.Tie as tie
 
-cast-first : tie.Need-cast-first
-cast-first c = search needs
-
-cast-second : tie.Need-cast-second
-cast-second c = search needs
-
-mul-first : tie.Need-mul-first
-mul-first c = search needs
-
-slice-set-from-first : tie.Need-slice-set-from-first
-slice-set-from-first c = search needs
-
-add-second : tie.Need-add-second
-add-second c = search needs
-
-mul-second : tie.Need-mul-second
-mul-second c = search needs
-
 slice-set-from-second : tie.Need-slice-set-from-second
 slice-set-from-second c = simp length-set (omega arith)
-
-add-how : tie.Need-add-how
-add-how c = search needs
-
-mul-how : tie.Need-mul-how
-mul-how c = search needs
 
 slice-set-from-how : tie.Need-slice-set-from-how
 slice-set-from-how c = simp length-set (omega arith)
 
-add-mx : tie.Need-add-mx
-add-mx c = search needs
-
-mul-mx : tie.Need-mul-mx
-mul-mx c = search needs
-
 slice-set-from-mx : tie.Need-slice-set-from-mx
 slice-set-from-mx c = simp length-set (omega arith)
-
-add-nx : tie.Need-add-nx
-add-nx c = search needs
-
-mul-nx : tie.Need-mul-nx
-mul-nx c = search needs
 
 slice-set-from-nx : tie.Need-slice-set-from-nx
 slice-set-from-nx c = simp length-set (omega arith)
 
-add-my : tie.Need-add-my
-add-my c = search needs
-
-mul-my : tie.Need-mul-my
-mul-my c = search needs
-
 slice-set-from-my : tie.Need-slice-set-from-my
 slice-set-from-my c = simp length-set (omega arith)
-
-add-ny : tie.Need-add-ny
-add-ny c = search needs
-
-mul-ny : tie.Need-mul-ny
-mul-ny c = search needs
 
 slice-set-from-ny : tie.Need-slice-set-from-ny
 slice-set-from-ny c = simp length-set (omega arith)
 
-add-w : tie.Need-add-w
-add-w c = search needs
-
-mul-w : tie.Need-mul-w
-mul-w c = search needs
-
 slice-set-from-w : tie.Need-slice-set-from-w
 slice-set-from-w c = simp length-set (omega arith)
-
-add-result : tie.Need-add-result
-add-result c = search needs
 
 same-length : tie.Need-same-length
 same-length c = simp length-set
@@ -117,31 +60,31 @@ pub write-row-spec : {M : Type 1} → statement M
 write-row-spec =
     tie.close
     (tie.spec
-    cast-first
-    cast-second
-    mul-first
-    slice-set-from-first
-    add-second
-    mul-second
+    (λ c. search needs)
+    (λ c. search needs)
+    (λ c. search needs)
+    (λ c. search needs)
+    (λ c. search needs)
+    (λ c. search needs)
     slice-set-from-second
-    add-how
-    mul-how
+    (λ c. search needs)
+    (λ c. search needs)
     slice-set-from-how
-    add-mx
-    mul-mx
+    (λ c. search needs)
+    (λ c. search needs)
     slice-set-from-mx
-    add-nx
-    mul-nx
+    (λ c. search needs)
+    (λ c. search needs)
     slice-set-from-nx
-    add-my
-    mul-my
+    (λ c. search needs)
+    (λ c. search needs)
     slice-set-from-my
-    add-ny
-    mul-ny
+    (λ c. search needs)
+    (λ c. search needs)
     slice-set-from-ny
-    add-w
-    mul-w
+    (λ c. search needs)
+    (λ c. search needs)
     slice-set-from-w
-    add-result
+    (λ c. search needs)
     same-length
     returns)

@@ -11,18 +11,6 @@ use borrow.Author.Needs.{needs}
 use Rattle.measure.proofs.numbers.of_box.Statement.{statement}
 use Rattle.measure.proofs.numbers.of_box.Tie as tie
 
-enum-known-boxed : tie.Need-enum-known-boxed
-enum-known-boxed c = search needs
-
-of-extent-requires : tie.Need-of-extent-requires
-of-extent-requires c κs = search needs
-
-enum-known-boxed-2 : tie.Need-enum-known-boxed-2
-enum-known-boxed-2 c = search needs
-
-six-requires : tie.Need-six-requires
-six-requires c κs = search needs
-
 abbrev shown : Boxed → Shown
 shown b = shownOf (boxedSays b)
 
@@ -41,9 +29,9 @@ pub of-box-spec : {M : Type 1} → statement M
 of-box-spec =
     tie.close
     (tie.spec
-    enum-known-boxed
-    of-extent-requires
-    enum-known-boxed-2
-    six-requires
+    (λ c. search needs)
+    (λ c κs. search needs)
+    (λ c. search needs)
+    (λ c κs. search needs)
     returns
     returns-2)

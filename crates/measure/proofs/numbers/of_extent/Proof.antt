@@ -13,12 +13,6 @@ use Rattle.measure.proofs.numbers.of_extent.Tie as tie
 abbrev shown : Extent → ℤ → Shown
 shown e n = record { refusal = pos 0; number = n; first = e .low .x; second = e .low .y; third = e .high .x; fourth = e .high .y }
 
-cast-flag : tie.Need-cast-flag
-cast-flag c = search needs
-
-six-requires : tie.Need-six-requires
-six-requires c κs = search needs
-
 flag-is : (b : Bool) → toZ w64 (boolByte b) ≡ flag b
 flag-is true = refl
 flag-is false = refl
@@ -29,4 +23,4 @@ returns c =
     c .six .ensures ∙ ap (shown e) (flag-is (e .none))
 
 pub of-extent-spec : {M : Type 1} → statement M
-of-extent-spec = tie.close (tie.spec cast-flag six-requires returns)
+of-extent-spec = tie.close (tie.spec (λ c. search needs) (λ c κs. search needs) returns)

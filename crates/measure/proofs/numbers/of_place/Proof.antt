@@ -11,24 +11,6 @@ use borrow.Author.Needs.{needs}
 use Rattle.measure.proofs.numbers.of_place.Statement.{statement}
 use Rattle.measure.proofs.numbers.of_place.Tie as tie
 
-enum-known-place : tie.Need-enum-known-place
-enum-known-place c = search needs
-
-six-requires : tie.Need-six-requires
-six-requires c κs = search needs
-
-enum-known-place-2 : tie.Need-enum-known-place-2
-enum-known-place-2 c = search needs
-
-six-requires-2 : tie.Need-six-requires-2
-six-requires-2 c κs = search needs
-
-enum-known-place-3 : tie.Need-enum-known-place-3
-enum-known-place-3 c = search needs
-
-six-requires-3 : tie.Need-six-requires-3
-six-requires-3 c κs = search needs
-
 abbrev shown : Place → Shown
 shown p = shownOf (placeSays p)
 
@@ -56,12 +38,12 @@ pub of-place-spec : {M : Type 1} → statement M
 of-place-spec =
     tie.close
     (tie.spec
-    enum-known-place
-    six-requires
-    enum-known-place-2
-    six-requires-2
-    enum-known-place-3
-    six-requires-3
+    (λ c. search needs)
+    (λ c κs. search needs)
+    (λ c. search needs)
+    (λ c κs. search needs)
+    (λ c. search needs)
+    (λ c κs. search needs)
     returns
     returns-2
     returns-3)

@@ -6,18 +6,6 @@ use borrow.Author.Needs.{needs}
 use Rattle.screen.proofs.extents.around.Statement.{statement}
 use Rattle.screen.proofs.extents.around.Tie as tie
 
-exact-requires : tie.Need-exact-requires
-exact-requires c κs = search needs
-
-exact-requires-2 : tie.Need-exact-requires-2
-exact-requires-2 c κs = search needs
-
-exact-requires-3 : tie.Need-exact-requires-3
-exact-requires-3 c κs = search needs
-
-exact-requires-4 : tie.Need-exact-requires-4
-exact-requires-4 c κs = search needs
-
 returns : tie.Need-returns
 returns c =
     let s = c .before .before .before .before in
@@ -30,4 +18,4 @@ returns c =
 
 pub around-spec : {M : Type 1} → statement M
 around-spec =
-    tie.close (tie.spec exact-requires exact-requires-2 exact-requires-3 exact-requires-4 returns)
+    tie.close (tie.spec (λ c κs. search needs) (λ c κs. search needs) (λ c κs. search needs) (λ c κs. search needs) returns)

@@ -14,9 +14,6 @@ use Rattle.screen.proofs.extents.box_of.Tie as tie
 abbrev told : List ℤ → Told
 told l = extentSays (extentOf (endsOf (objectsOf l)))
 
-list-refusal-requires : tie.Need-list-refusal-requires
-list-refusal-requires c κs = search needs
-
 returns : tie.Need-returns
 returns c =
     let r = c .before .list-refusal in
@@ -33,4 +30,4 @@ returns-2 c =
     ∙ told-accepted (told (e .before .before .args .list .now)) (fits-ok (r .result) (r .ok)) (r .ensures) (e .if1 .left)
 
 pub box-of-spec : {M : Type 1} → statement M
-box-of-spec = tie.close (tie.spec list-refusal-requires returns extent-requires returns-2)
+box-of-spec = tie.close (tie.spec (λ c κs. search needs) returns extent-requires returns-2)

@@ -61,17 +61,8 @@ module _ (c : tie.After-farthest-end4) where
   hy : out (c .farthest-end4 .result) ≡ extreme true 1 (ends s)
   hy = let r = c .farthest-end4 in gave (r .ok) (r .ensures) ∙ from true 1
 
-add-above : tie.Need-add-above
-add-above c = search needs
-
-sub-below : tie.Need-sub-below
-sub-below c = search needs
-
 farthest-end-requires : tie.Need-farthest-end-requires
 farthest-end-requires c κs = (fives c, omega arith)
-
-nothing-requires : tie.Need-nothing-requires
-nothing-requires c κs = search needs
 
 returns : tie.Need-returns
 returns c =
@@ -108,10 +99,10 @@ pub extent-spec : {M : Type 1} → statement M
 extent-spec =
     tie.close
     (tie.spec
-    add-above
-    sub-below
+    (λ c. search needs)
+    (λ c. search needs)
     farthest-end-requires
-    nothing-requires
+    (λ c κs. search needs)
     returns
     farthest-end-requires-2
     farthest-end-requires-3

@@ -12,12 +12,6 @@ use Rattle.screen.proofs.extents.step.Tie as tie
 abbrev chosen : tie.Start → Bool → Bool → ℤ
 chosen s = steppedBy (s .args .up) (s .args .far) (s .args .p) (s .args .q)
 
-pick-requires : tie.Need-pick-requires
-pick-requires c κs = search needs
-
-pick-requires-2 : tie.Need-pick-requires-2
-pick-requires-2 c κs = search needs
-
 returns : tie.Need-returns
 returns c =
     let s = c .before .before .before in
@@ -27,9 +21,6 @@ returns c =
     gave (c .pick2 .ok) (c .pick2 .ensures)
     ∙ (λ i. farther (s .args .up) (inner i) (out-is (s .fits .q) i))
     ∙ sym (ap (λ (t : Bool). chosen s t (eqZ (s .args .kind) (pos 2))) one)
-
-pick-requires-3 : tie.Need-pick-requires-3
-pick-requires-3 c κs = search needs
 
 returns-2 : tie.Need-returns-2
 returns-2 c =
@@ -49,4 +40,4 @@ returns-3 c =
 
 pub step-spec : {M : Type 1} → statement M
 step-spec =
-    tie.close (tie.spec pick-requires pick-requires-2 returns pick-requires-3 returns-2 returns-3)
+    tie.close (tie.spec (λ c κs. search needs) (λ c κs. search needs) returns (λ c κs. search needs) returns-2 returns-3)

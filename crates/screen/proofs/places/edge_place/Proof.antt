@@ -23,15 +23,6 @@ number c =
     let p = handed.point (point s) (s .fits .mx .sfits) (s .fits .nx .sfits) (s .fits .my .sfits) (s .fits .ny .sfits) (s .fits .w .sfits) in
     gave (r .ok) (r .ensures) ∙ (λ i. sideNumber (sideWhere (p i)))
 
-side-number-requires : tie.Need-side-number-requires
-side-number-requires c κs = search needs
-
-value-along-requires : tie.Need-value-along-requires
-value-along-requires c κs = search needs
-
-value-along-requires-2 : tie.Need-value-along-requires-2
-value-along-requires-2 c κs = search needs
-
 -- what `value_along` gives for two numbers of the point, one of x and one of y
 value : (c : tie.After-side-number) {r : Float} (x y : ℤ) → out x ≡ x → out y ≡ y
     → r ≡ quotient (alongNumber (out (c .side-number .result)) (out x) (out y)) (out (c .before .args .w))
@@ -52,4 +43,4 @@ returns c =
     λ i. record { wholes = pos 0 ∷ number b i ∷ []; floats = slope i ∷ offset i ∷ [] }
 
 pub edge-place-spec : {M : Type 1} → statement M
-edge-place-spec = tie.close (tie.spec side-number-requires value-along-requires value-along-requires-2 returns)
+edge-place-spec = tie.close (tie.spec (λ c κs. search needs) (λ c κs. search needs) (λ c κs. search needs) returns)

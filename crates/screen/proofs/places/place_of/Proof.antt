@@ -10,9 +10,6 @@ use borrow.Author.Needs.{needs}
 use Rattle.screen.proofs.places.place_of.Statement.{statement}
 use Rattle.screen.proofs.places.place_of.Tie as tie
 
-check-point-requires : tie.Need-check-point-requires
-check-point-requires c κs = search needs
-
 returns : tie.Need-returns
 returns c =
     let r = c .before .check-point in
@@ -38,4 +35,4 @@ returns-2 c =
     ∙ told-accepted (placeOf p) (fits-ok (r .result) (r .ok)) (r .ensures) (e .if1 .left)
 
 pub place-of-spec : {M : Type 1} → statement M
-place-of-spec = tie.close (tie.spec check-point-requires returns point-place-requires returns-2)
+place-of-spec = tie.close (tie.spec (λ c κs. search needs) returns point-place-requires returns-2)

@@ -45,18 +45,6 @@ named c =
     let t = c .is-exactly4 .ensures ∙ (λ i. exactly (my i) (ny i) (w i)) in
     λ i. sideNumber (sideBy (l i) (b i) (r i) (t i))
 
-is-exactly-requires : tie.Need-is-exactly-requires
-is-exactly-requires c κs = search needs
-
-is-exactly-requires-2 : tie.Need-is-exactly-requires-2
-is-exactly-requires-2 c κs = search needs
-
-is-exactly-requires-3 : tie.Need-is-exactly-requires-3
-is-exactly-requires-3 c κs = search needs
-
-is-exactly-requires-4 : tie.Need-is-exactly-requires-4
-is-exactly-requires-4 c κs = search needs
-
 returns : tie.Need-returns
 returns c = simp (c .if1 .taken) at (named (c .before))
 
@@ -74,10 +62,10 @@ side-number-spec =
     tie.close
     (tie.spec
     sub-back
-    is-exactly-requires
-    is-exactly-requires-2
-    is-exactly-requires-3
-    is-exactly-requires-4
+    (λ c κs. search needs)
+    (λ c κs. search needs)
+    (λ c κs. search needs)
+    (λ c κs. search needs)
     returns
     returns-2
     returns-3

@@ -10,9 +10,6 @@ use borrow.Author.Needs.{needs}
 use Rattle.screen.proofs.places.value_along.Statement.{statement}
 use Rattle.screen.proofs.places.value_along.Tie as tie
 
-ratio-requires : tie.Need-ratio-requires
-ratio-requires c κs = search needs
-
 -- what the flag chooses
 chosen : (s : tie.Start) {t : Bool} → eqb (ofZ w64 (s .args .side)) 1 || eqb (ofZ w64 (s .args .side)) 3 ≡ t
     → cond t (s .args .y) (s .args .x) ≡ alongNumber (s .args .side) (s .args .x) (s .args .y)
@@ -25,13 +22,10 @@ returns c =
     let s = c .before .before in
     c .ratio .ensures .0 ∙ ap₂ quotient (out-is (s .fits .y) ∙ chosen s (c .before .if1 .taken)) (out-is (s .fits .w))
 
-ratio-requires-2 : tie.Need-ratio-requires-2
-ratio-requires-2 c κs = search needs
-
 returns-2 : tie.Need-returns-2
 returns-2 c =
     let s = c .before .before in
     c .ratio2 .ensures .0 ∙ ap₂ quotient (out-is (s .fits .x) ∙ chosen s (c .before .if1 .left)) (out-is (s .fits .w))
 
 pub value-along-spec : {M : Type 1} → statement M
-value-along-spec = tie.close (tie.spec ratio-requires returns ratio-requires-2 returns-2)
+value-along-spec = tie.close (tie.spec (λ c κs. search needs) returns (λ c κs. search needs) returns-2)

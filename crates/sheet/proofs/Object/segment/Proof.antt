@@ -3,13 +3,10 @@ use borrow.Author.Needs.{needs}
 use Rattle.sheet.proofs.Object.segment.Statement.{statement}
 use Rattle.sheet.proofs.Object.segment.Tie as tie
 
-make-requires : tie.Need-make-requires
-make-requires c κs = search needs
-
 returns : tie.Need-returns
 returns c =
     let s = c .before in
     simp (out-is, s .fits .px, s .fits .py, s .fits .qx, s .fits .qy) at (c .make .ensures)
 
 pub segment-spec : {M : Type 1} → statement M
-segment-spec = tie.close (tie.spec make-requires returns)
+segment-spec = tie.close (tie.spec (λ c κs. search needs) returns)

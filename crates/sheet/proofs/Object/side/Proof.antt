@@ -10,9 +10,6 @@ use Rattle.sheet.proofs.Object.side.Tie as tie
 refusal : (c : tie.After-side-refusal) → c .side-refusal .result ≡ sideRefusal (c .before .args .n) (pos 0) (pos 0) (pos 0)
 refusal c = simp (c .side-refusal .ensures, out-is, c .before .fits .n)
 
-side-refusal-requires : tie.Need-side-refusal-requires
-side-refusal-requires c κs = search needs
-
 returns : tie.Need-returns
 returns c = says-refused _ (record { sfits = c .before .side-refusal .ok }) (refusal (c .before)) (c .if1 .taken)
 
@@ -22,4 +19,4 @@ returns-2 c =
     (says-accepted _ (record { sfits = c .before .side-refusal .ok }) (refusal (c .before)) (c .if1 .left))
 
 pub side-spec : {M : Type 1} → statement M
-side-spec = tie.close (tie.spec side-refusal-requires returns returns-2)
+side-spec = tie.close (tie.spec (λ c κs. search needs) returns returns-2)

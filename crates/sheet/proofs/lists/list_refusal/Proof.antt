@@ -14,9 +14,6 @@ returns-2 : tie.Need-returns-2
 unfolding listRefusal
 returns-2 c = simp (eq-eqb _ _ (c .before .if1 .left), lt-ltb _ _ (c .if2 .taken))
 
-objects-refusal-requires : tie.Need-objects-refusal-requires
-objects-refusal-requires c κs = search needs
-
 returns-3 : tie.Need-returns-3
 unfolding listRefusal
 returns-3 c =
@@ -25,4 +22,4 @@ returns-3 c =
     simp (eq-eqb _ _ (c .before .before .if1 .left), le-ltb _ _ (c .before .if2 .left)) e
 
 pub list-refusal-spec : {M : Type 1} → statement M
-list-refusal-spec = tie.close (tie.spec returns returns-2 objects-refusal-requires returns-3)
+list-refusal-spec = tie.close (tie.spec returns returns-2 (λ c κs. search needs) returns-3)

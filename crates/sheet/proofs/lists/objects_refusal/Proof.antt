@@ -21,12 +21,6 @@ loop-holds : tie.Need-loop-holds Inv-loop μ-loop
 unfolding firstRefusal
 loop-holds c = (search needs, refl)
 
-object-at-requires : tie.Need-object-at-requires Inv-loop μ-loop
-object-at-requires c κs = search needs
-
-object-refusal-requires : tie.Need-object-refusal-requires Inv-loop μ-loop
-object-refusal-requires c κs = search needs
-
 returns : tie.Need-returns Inv-loop μ-loop
 returns c =
     let at = c .before .before .before .before in
@@ -35,12 +29,6 @@ returns c =
     let is = r .ensures .0 ∙ ap objectRefusal (c .before .before .object-at .ensures) in
     out-is (fits-ok (r .result) (r .ok)) ∙ is
     ∙ one-refused l (at .loop .i) (at .loop .inv .1) (at .before .args .n) (omega arith) (λ z. eq-left {x = r .result} {y = pos 0} (c .if1 .taken) (is ∙ z))
-
-add-i : tie.Need-add-i Inv-loop μ-loop
-add-i c = search needs
-
-loop-less : tie.Need-loop-less Inv-loop μ-loop
-loop-less c = search needs
 
 loop-again : tie.Need-loop-again Inv-loop μ-loop
 loop-again c =
@@ -63,10 +51,10 @@ objects-refusal-spec =
     Inv-loop
     μ-loop
     loop-holds
-    object-at-requires
-    object-refusal-requires
+    (λ c κs. search needs)
+    (λ c κs. search needs)
     returns
-    add-i
-    loop-less
+    (λ c. search needs)
+    (λ c. search needs)
     loop-again
     returns-2)

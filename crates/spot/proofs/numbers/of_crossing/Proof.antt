@@ -10,27 +10,6 @@ use borrow.Author.Needs.{needs}
 use Rattle.spot.proofs.numbers.of_crossing.Statement.{statement}
 use Rattle.spot.proofs.numbers.of_crossing.Tie as tie
 
-enum-told : tie.Need-enum-told
-enum-told c = search needs
-
-without-point-requires : tie.Need-without-point-requires
-without-point-requires c κs = search needs
-
-enum-known-crossing : tie.Need-enum-known-crossing
-enum-known-crossing c = search needs
-
-enum-told-2 : tie.Need-enum-told-2
-enum-told-2 c = search needs
-
-without-point-requires-2 : tie.Need-without-point-requires-2
-without-point-requires-2 c κs = search needs
-
-enum-known-crossing-2 : tie.Need-enum-known-crossing-2
-enum-known-crossing-2 c = search needs
-
-without-point-requires-3 : tie.Need-without-point-requires-3
-without-point-requires-3 c κs = search needs
-
 abbrev said : Crossing → Answer
 said s = answerOf (crossingSays s)
 
@@ -54,13 +33,13 @@ pub of-crossing-spec : {M : Type 1} → statement M
 of-crossing-spec =
     tie.close
     (tie.spec
-    enum-told
-    without-point-requires
-    enum-known-crossing
-    enum-told-2
-    without-point-requires-2
-    enum-known-crossing-2
-    without-point-requires-3
+    (λ c. search needs)
+    (λ c κs. search needs)
+    (λ c. search needs)
+    (λ c. search needs)
+    (λ c κs. search needs)
+    (λ c. search needs)
+    (λ c κs. search needs)
     returns
     returns-2
     returns-3

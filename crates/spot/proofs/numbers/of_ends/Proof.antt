@@ -8,18 +8,6 @@ use borrow.Author.Needs.{needs}
 use Rattle.spot.proofs.numbers.of_ends.Statement.{statement}
 use Rattle.spot.proofs.numbers.of_ends.Tie as tie
 
-enum-known-ends : tie.Need-enum-known-ends
-enum-known-ends c = search needs
-
-enum-known-ends-2 : tie.Need-enum-known-ends-2
-enum-known-ends-2 c = search needs
-
-no-point-requires : tie.Need-no-point-requires
-no-point-requires c κs = search needs
-
-no-point-requires-2 : tie.Need-no-point-requires-2
-no-point-requires-2 c κs = search needs
-
 abbrev said : Ends → TwoEnds
 said e = twoEndsOf (endsSay e)
 
@@ -40,9 +28,9 @@ pub of-ends-spec : {M : Type 1} → statement M
 of-ends-spec =
     tie.close
     (tie.spec
-    enum-known-ends
-    enum-known-ends-2
-    no-point-requires
-    no-point-requires-2
+    (λ c. search needs)
+    (λ c. search needs)
+    (λ c κs. search needs)
+    (λ c κs. search needs)
     returns
     returns-2)

@@ -10,18 +10,6 @@ use borrow.Author.Needs.{needs}
 use Rattle.spot.proofs.numbers.of_sign.Statement.{statement}
 use Rattle.spot.proofs.numbers.of_sign.Tie as tie
 
-enum-known-signed : tie.Need-enum-known-signed
-enum-known-signed c = search needs
-
-without-point-requires : tie.Need-without-point-requires
-without-point-requires c κs = search needs
-
-enum-known-signed-2 : tie.Need-enum-known-signed-2
-enum-known-signed-2 c = search needs
-
-without-point-requires-2 : tie.Need-without-point-requires-2
-without-point-requires-2 c κs = search needs
-
 abbrev said : Signed → Answer
 said s = answerOf (signedSays s)
 
@@ -43,9 +31,9 @@ pub of-sign-spec : {M : Type 1} → statement M
 of-sign-spec =
     tie.close
     (tie.spec
-    enum-known-signed
-    without-point-requires
-    enum-known-signed-2
-    without-point-requires-2
+    (λ c. search needs)
+    (λ c κs. search needs)
+    (λ c. search needs)
+    (λ c κs. search needs)
     returns
     returns-2)

@@ -3,9 +3,6 @@ use borrow.Author.Needs.{needs}
 use Rattle.spot.proofs.numbers.without_point.Statement.{statement}
 use Rattle.spot.proofs.numbers.without_point.Tie as tie
 
-no-point-requires : tie.Need-no-point-requires
-no-point-requires c κs = search needs
-
 returns : tie.Need-returns
 returns c =
     let s = c .before in
@@ -16,4 +13,4 @@ returns c =
     }
 
 pub without-point-spec : {M : Type 1} → statement M
-without-point-spec = tie.close (tie.spec no-point-requires returns)
+without-point-spec = tie.close (tie.spec (λ c κs. search needs) returns)

@@ -15,9 +15,6 @@ use Rattle.whole.specs.Flat.{none, _also_, need, gives}
 use Rattle.store.proofs.reading.coordinate_of.Statement.{statement}
 use Rattle.store.proofs.reading.coordinate_of.Tie as tie
 
-cast-half : tie.Need-cast-half
-cast-half c = search needs
-
 half : (s : tie.Start) → Within 8192 (pos (s .args .n / 2))
 half s = record { within = omega arith }
 
@@ -41,4 +38,4 @@ returns-2 c =
     gives (half (c .before) also none) (con (pos 0) ⊖ var 0 ⊖ con (pos 1)) tt ∙ below (n / 2) ∙ simp (ne-eqb (n % 2) 0 (c .if1 .left))
 
 pub coordinate-of-spec : {M : Type 1} → statement M
-coordinate-of-spec = tie.close (tie.spec cast-half returns sub-result sub-result-2 returns-2)
+coordinate-of-spec = tie.close (tie.spec (λ c. search needs) returns sub-result sub-result-2 returns-2)

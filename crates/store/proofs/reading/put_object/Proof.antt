@@ -8,56 +8,20 @@ use Rattle.whole.specs.Tests.{out-ok}
 use Rattle.store.proofs.reading.put_object.Statement.{statement}
 use Rattle.store.proofs.reading.put_object.Tie as tie
 
-add-if1 : tie.Need-add-if1
-add-if1 c = search needs
-
 returns : tie.Need-returns
 returns c = λ h. absurd (omega arith)
-
-mul-kind : tie.Need-mul-kind
-mul-kind c = search needs
-
-slice-set-from-kind : tie.Need-slice-set-from-kind
-slice-set-from-kind c = search needs
-
-add-px : tie.Need-add-px
-add-px c = search needs
-
-mul-px : tie.Need-mul-px
-mul-px c = search needs
 
 slice-set-from-px : tie.Need-slice-set-from-px
 slice-set-from-px c = simp length-set (omega arith)
 
-add-py : tie.Need-add-py
-add-py c = search needs
-
-mul-py : tie.Need-mul-py
-mul-py c = search needs
-
 slice-set-from-py : tie.Need-slice-set-from-py
 slice-set-from-py c = simp length-set (omega arith)
-
-add-qx : tie.Need-add-qx
-add-qx c = search needs
-
-mul-qx : tie.Need-mul-qx
-mul-qx c = search needs
 
 slice-set-from-qx : tie.Need-slice-set-from-qx
 slice-set-from-qx c = simp length-set (omega arith)
 
-add-qy : tie.Need-add-qy
-add-qy c = search needs
-
-mul-qy : tie.Need-mul-qy
-mul-qy c = search needs
-
 slice-set-from-qy : tie.Need-slice-set-from-qy
 slice-set-from-qy c = simp length-set (omega arith)
-
-same-length : tie.Need-same-length
-same-length c = search needs
 
 returns-2 : tie.Need-returns-2
 returns-2 c =
@@ -79,21 +43,21 @@ pub put-object-spec : {M : Type 1} → statement M
 put-object-spec =
     tie.close
     (tie.spec
-    add-if1
+    (λ c. search needs)
     returns
-    mul-kind
-    slice-set-from-kind
-    add-px
-    mul-px
+    (λ c. search needs)
+    (λ c. search needs)
+    (λ c. search needs)
+    (λ c. search needs)
     slice-set-from-px
-    add-py
-    mul-py
+    (λ c. search needs)
+    (λ c. search needs)
     slice-set-from-py
-    add-qx
-    mul-qx
+    (λ c. search needs)
+    (λ c. search needs)
     slice-set-from-qx
-    add-qy
-    mul-qy
+    (λ c. search needs)
+    (λ c. search needs)
     slice-set-from-qy
-    same-length
+    (λ c. search needs)
     returns-2)

@@ -9,15 +9,9 @@ use Rattle.store.specs.TellsLaws.{on-refused, on-taken, tells-taken, tel
 use Rattle.store.proofs.reading.read_coordinate.Statement.{statement}
 use Rattle.store.proofs.reading.read_coordinate.Tie as tie
 
-read-number-requires : tie.Need-read-number-requires
-read-number-requires c κs = search needs
-
 returns : tie.Need-returns
 unfolding readCoordinate
 returns c = on-refused (c .before .before .read-number .ensures .0) (c .before .struct-told .given .0 .1) _ (c .if1 .taken)
-
-coordinate-of-requires : tie.Need-coordinate-of-requires
-coordinate-of-requires c κs = search needs
 
 value : (c : tie.After-coordinate-of) → out (c .coordinate-of .result) ≡ unzigzag (c .before .before .before .read-number .result .value)
 value c = gave (c .coordinate-of .ok) (c .coordinate-of .ensures)
@@ -25,9 +19,6 @@ value c = gave (c .coordinate-of .ok) (c .coordinate-of .ensures)
 far : (c : tie.After-coordinate-of) {t : Bool} → beyond (out (c .coordinate-of .result)) ≡ t → beyond
     (unzigzag (c .before .before .before .read-number .result .value)) ≡ t
 far c e = simp (sym (value c)) e
-
-sub-if2 : tie.Need-sub-if2
-sub-if2 c = search needs
 
 returns-2 : tie.Need-returns-2
 unfolding readCoordinate
@@ -48,4 +39,4 @@ returns-3 c =
 pub read-coordinate-spec : {M : Type 1} → statement M
 read-coordinate-spec =
     tie.close
-    (tie.spec read-number-requires returns coordinate-of-requires sub-if2 returns-2 returns-3)
+    (tie.spec (λ c κs. search needs) returns (λ c κs. search needs) (λ c. search needs) returns-2 returns-3)

@@ -9,9 +9,6 @@ use Rattle.store.specs.TellsLaws.{on-refused, on-taken, tells-taken, tel
 use Rattle.store.proofs.reading.read_count.Statement.{statement}
 use Rattle.store.proofs.reading.read_count.Tie as tie
 
-read-number-requires : tie.Need-read-number-requires
-read-number-requires c κs = search needs
-
 returns : tie.Need-returns
 unfolding readCount
 returns c =
@@ -36,4 +33,4 @@ returns-3 c =
     )
 
 pub read-count-spec : {M : Type 1} → statement M
-read-count-spec = tie.close (tie.spec read-number-requires returns returns-2 returns-3)
+read-count-spec = tie.close (tie.spec (λ c κs. search needs) returns returns-2 returns-3)

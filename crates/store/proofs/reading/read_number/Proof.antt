@@ -18,9 +18,6 @@ high-good c = second-good _ (c .if4 .left)
 returns : tie.Need-returns
 returns c = (tells-refused refl (number-none (c .before .args .bytes .now) (c .if1 .taken)), omega arith)
 
-shared-slice-read-low : tie.Need-shared-slice-read-low
-shared-slice-read-low c = search needs
-
 cast-low : tie.Need-cast-low
 cast-low c = omega (arith, c .shared-slice-known .given 0)
 
@@ -33,9 +30,6 @@ returns-3 : tie.Need-returns-3
 returns-3 c =
     let bs = c .before .before .before .before .args .bytes .now in
     (tells-refused refl (number-cut bs (omega arith) (omega arith)), omega arith)
-
-shared-slice-read-high : tie.Need-shared-slice-read-high
-shared-slice-read-high c = search needs
 
 cast-high : tie.Need-cast-high
 cast-high c = omega (arith, c .shared-slice-known2 .given 1)
@@ -65,11 +59,11 @@ read-number-spec =
     tie.close
     (tie.spec
     returns
-    shared-slice-read-low
+    (λ c. search needs)
     cast-low
     returns-2
     returns-3
-    shared-slice-read-high
+    (λ c. search needs)
     cast-high
     returns-4
     mul-t12

@@ -7,21 +7,12 @@ use Rattle.store.specs.TellsLaws.{on-refused, on-taken, tells-on, tells-
 use Rattle.store.proofs.reading.read_object.Statement.{statement}
 use Rattle.store.proofs.reading.read_object.Tie as tie
 
-read-number-requires : tie.Need-read-number-requires
-read-number-requires c κs = search needs
-
-no-part-requires : tie.Need-no-part-requires
-no-part-requires c κs = search needs
-
 returns : tie.Need-returns
 unfolding readObject
 returns c =
     let s = c .before .before .before in
     tells-no (c .no-part .ensures) (on-refused (s .read-number .ensures .0) (c .before .before .struct-told .given .0 .1) _
     (c .before .if1 .taken))
-
-no-part-requires-2 : tie.Need-no-part-requires-2
-no-part-requires-2 c κs = search needs
 
 returns-2 : tie.Need-returns-2
 unfolding readObject
@@ -30,21 +21,6 @@ returns-2 c =
     tells-no (c .no-part2 .ensures)
     (tells-refused refl (on-taken (s .read-number .ensures .0) (c .before .before .before .struct-told .given .0 .1) _
     (c .before .before .if1 .left) ∙ simp (c .before .if2 .taken)))
-
-sub-read-shape : tie.Need-sub-read-shape
-sub-read-shape c = search needs
-
-part-read-shape-start : tie.Need-part-read-shape-start
-part-read-shape-start c = search needs
-
-part-read-shape-end : tie.Need-part-read-shape-end
-part-read-shape-end c = search needs
-
-read-shape-requires : tie.Need-read-shape-requires
-read-shape-requires c κs = search needs
-
-add-t12 : tie.Need-add-t12
-add-t12 c = search needs
 
 returns-3 : tie.Need-returns-3
 unfolding readObject
@@ -63,14 +39,14 @@ pub read-object-spec : {M : Type 1} → statement M
 read-object-spec =
     tie.close
     (tie.spec
-    read-number-requires
-    no-part-requires
+    (λ c κs. search needs)
+    (λ c κs. search needs)
     returns
-    no-part-requires-2
+    (λ c κs. search needs)
     returns-2
-    sub-read-shape
-    part-read-shape-start
-    part-read-shape-end
-    read-shape-requires
-    add-t12
+    (λ c. search needs)
+    (λ c. search needs)
+    (λ c. search needs)
+    (λ c κs. search needs)
+    (λ c. search needs)
     returns-3)

@@ -75,18 +75,6 @@ abbrev μ-loop : tie.MeasureT-loop
 loop-holds : tie.Need-loop-holds Inv-loop μ-loop
 loop-holds c = record { in-bytes = omega arith; place = omega arith; same = refl; refusal = refl; is = λ _. refl }
 
-sub-read-object : tie.Need-sub-read-object Inv-loop μ-loop
-sub-read-object c = search needs
-
-part-read-object-start : tie.Need-part-read-object-start Inv-loop μ-loop
-part-read-object-start c = search needs
-
-part-read-object-end : tie.Need-part-read-object-end Inv-loop μ-loop
-part-read-object-end c = search needs
-
-read-object-requires : tie.Need-read-object-requires Inv-loop μ-loop
-read-object-requires c κs = search needs
-
 same-length : tie.Need-same-length Inv-loop μ-loop
 same-length c = c .before .before .before .before .before .loop .inv .same
 
@@ -117,12 +105,6 @@ add-to : tie.Need-add-to Inv-loop μ-loop
 add-to c =
     let at = c .before .before .before .before .before .before .before .before .before .before in
     omega (arith, at .loop .inv .place, at .before .before .pre)
-
-sub-left : tie.Need-sub-left Inv-loop μ-loop
-sub-left c = search needs
-
-loop-less : tie.Need-loop-less Inv-loop μ-loop
-loop-less c = search needs
 
 loop-again : tie.Need-loop-again Inv-loop μ-loop
 loop-again c =
@@ -167,17 +149,17 @@ read-objects-spec =
     Inv-loop
     μ-loop
     loop-holds
-    sub-read-object
-    part-read-object-start
-    part-read-object-end
-    read-object-requires
+    (λ c. search needs)
+    (λ c. search needs)
+    (λ c. search needs)
+    (λ c κs. search needs)
     same-length
     returns
     put-object-requires
     add-at
     add-to
-    sub-left
-    loop-less
+    (λ c. search needs)
+    (λ c. search needs)
     loop-again
     same-length-2
     returns-2

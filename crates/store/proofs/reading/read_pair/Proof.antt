@@ -9,33 +9,12 @@ use Rattle.store.specs.TellsLaws.{on-refused, tells-on, tells-as, tells-
 use Rattle.store.proofs.reading.read_pair.Statement.{statement}
 use Rattle.store.proofs.reading.read_pair.Tie as tie
 
-read-point-requires : tie.Need-read-point-requires
-read-point-requires c κs = search needs
-
-no-part-requires : tie.Need-no-part-requires
-no-part-requires c κs = search needs
-
 returns : tie.Need-returns
 unfolding readPair
 returns c =
     let s = c .before .before .before in
     tells-no (c .no-part .ensures) (on-refused (s .read-point .ensures) (c .before .before .struct-told .given .0 .1) _
     (c .before .if1 .taken))
-
-sub-read-to : tie.Need-sub-read-to
-sub-read-to c = search needs
-
-part-read-to-start : tie.Need-part-read-to-start
-part-read-to-start c = search needs
-
-part-read-to-end : tie.Need-part-read-to-end
-part-read-to-end c = search needs
-
-read-to-requires : tie.Need-read-to-requires
-read-to-requires c κs = search needs
-
-add-t10 : tie.Need-add-t10
-add-t10 c = search needs
 
 returns-2 : tie.Need-returns-2
 unfolding readPair
@@ -57,12 +36,12 @@ pub read-pair-spec : {M : Type 1} → statement M
 read-pair-spec =
     tie.close
     (tie.spec
-    read-point-requires
-    no-part-requires
+    (λ c κs. search needs)
+    (λ c κs. search needs)
     returns
-    sub-read-to
-    part-read-to-start
-    part-read-to-end
-    read-to-requires
-    add-t10
+    (λ c. search needs)
+    (λ c. search needs)
+    (λ c. search needs)
+    (λ c κs. search needs)
+    (λ c. search needs)
     returns-2)

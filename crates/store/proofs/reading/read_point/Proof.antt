@@ -6,27 +6,9 @@ use Rattle.store.specs.TellsLaws.{on-refused, tells-on, tells-as, tells-
 use Rattle.store.proofs.reading.read_point.Statement.{statement}
 use Rattle.store.proofs.reading.read_point.Tie as tie
 
-read-coordinate-requires : tie.Need-read-coordinate-requires
-read-coordinate-requires c κs = search needs
-
 returns : tie.Need-returns
 unfolding readPoint
 returns c = on-refused (c .before .before .read-coordinate .ensures) (c .before .struct-told .given .0 .1) _ (c .if1 .taken)
-
-sub-read-coordinate : tie.Need-sub-read-coordinate
-sub-read-coordinate c = search needs
-
-part-read-coordinate-start : tie.Need-part-read-coordinate-start
-part-read-coordinate-start c = search needs
-
-part-read-coordinate-end : tie.Need-part-read-coordinate-end
-part-read-coordinate-end c = search needs
-
-read-coordinate-requires-2 : tie.Need-read-coordinate-requires-2
-read-coordinate-requires-2 c κs = search needs
-
-add-t8 : tie.Need-add-t8
-add-t8 c = search needs
 
 returns-2 : tie.Need-returns-2
 unfolding readPoint
@@ -46,11 +28,11 @@ pub read-point-spec : {M : Type 1} → statement M
 read-point-spec =
     tie.close
     (tie.spec
-    read-coordinate-requires
+    (λ c κs. search needs)
     returns
-    sub-read-coordinate
-    part-read-coordinate-start
-    part-read-coordinate-end
-    read-coordinate-requires-2
-    add-t8
+    (λ c. search needs)
+    (λ c. search needs)
+    (λ c. search needs)
+    (λ c κs. search needs)
+    (λ c. search needs)
     returns-2)

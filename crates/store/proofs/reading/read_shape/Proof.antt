@@ -5,19 +5,13 @@ use Rattle.store.specs.Stored.{readShape}
 use Rattle.store.proofs.reading.read_shape.Statement.{statement}
 use Rattle.store.proofs.reading.read_shape.Tie as tie
 
-read-side-requires : tie.Need-read-side-requires
-read-side-requires c κs = search needs
-
 returns : tie.Need-returns
 unfolding readShape
 returns c = simp (eq-eqb _ _ (c .before .if1 .taken)) (c .read-side .ensures)
-
-read-pair-requires : tie.Need-read-pair-requires
-read-pair-requires c κs = search needs
 
 returns-2 : tie.Need-returns-2
 unfolding readShape
 returns-2 c = simp (ne-eqb _ _ (c .before .if1 .left)) (c .read-pair .ensures)
 
 pub read-shape-spec : {M : Type 1} → statement M
-read-shape-spec = tie.close (tie.spec read-side-requires returns read-pair-requires returns-2)
+read-shape-spec = tie.close (tie.spec (λ c κs. search needs) returns (λ c κs. search needs) returns-2)

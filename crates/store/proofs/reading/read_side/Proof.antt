@@ -9,21 +9,12 @@ use Rattle.store.specs.TellsLaws.{on-refused, on-taken, tells-taken, tel
 use Rattle.store.proofs.reading.read_side.Statement.{statement}
 use Rattle.store.proofs.reading.read_side.Tie as tie
 
-read-number-requires : tie.Need-read-number-requires
-read-number-requires c κs = search needs
-
-no-part-requires : tie.Need-no-part-requires
-no-part-requires c κs = search needs
-
 returns : tie.Need-returns
 unfolding readSide
 returns c =
     let s = c .before .before .before in
     tells-no (c .no-part .ensures) (on-refused (s .read-number .ensures .0) (c .before .before .struct-told .given .0 .1) _
     (c .before .if1 .taken))
-
-no-part-requires-2 : tie.Need-no-part-requires-2
-no-part-requires-2 c κs = search needs
 
 returns-2 : tie.Need-returns-2
 unfolding readSide
@@ -32,9 +23,6 @@ returns-2 c =
     tells-no (c .no-part2 .ensures)
     (tells-refused refl (on-taken (s .read-number .ensures .0) (c .before .before .before .struct-told .given .0 .1) _
     (c .before .before .if1 .left) ∙ simp (c .before .if2 .taken)))
-
-cast-t8 : tie.Need-cast-t8
-cast-t8 c = search needs
 
 returns-3 : tie.Need-returns-3
 unfolding readSide
@@ -50,10 +38,10 @@ pub read-side-spec : {M : Type 1} → statement M
 read-side-spec =
     tie.close
     (tie.spec
-    read-number-requires
-    no-part-requires
+    (λ c κs. search needs)
+    (λ c κs. search needs)
     returns
-    no-part-requires-2
+    (λ c κs. search needs)
     returns-2
-    cast-t8
+    (λ c. search needs)
     returns-3)

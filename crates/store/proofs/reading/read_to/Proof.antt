@@ -14,12 +14,6 @@ use Rattle.store.specs.TellsLaws.{on-refused, on-taken, tells-taken, tel
 use Rattle.store.proofs.reading.read_to.Statement.{statement}
 use Rattle.store.proofs.reading.read_to.Tie as tie
 
-read-point-requires : tie.Need-read-point-requires
-read-point-requires c κs = search needs
-
-no-part-requires : tie.Need-no-part-requires
-no-part-requires c κs = search needs
-
 -- the test whether the points are equal
 twice :
     (c : tie.After-struct-told3) {t : Bool} →
@@ -40,9 +34,6 @@ returns c =
     tells-no (c .no-part .ensures) (on-refused (s .read-point .ensures) (c .before .before .struct-told .given .0 .1) _
     (c .before .if1 .taken))
 
-no-part-requires-2 : tie.Need-no-part-requires-2
-no-part-requires-2 c κs = search needs
-
 returns-2 : tie.Need-returns-2
 unfolding readTo
 returns-2 c =
@@ -51,9 +42,6 @@ returns-2 c =
     let point = on-taken (first .read-point .ensures) (t .before .before .before .struct-told .given .0 .1) _
     (t .before .before .if1 .left) in
     tells-no (c .no-part2 .ensures) (tells-refused refl (point ∙ simp (twice t (c .before .if2 .taken))))
-
-cast-t12 : tie.Need-cast-t12
-cast-t12 c = search needs
 
 returns-3 : tie.Need-returns-3
 unfolding readTo
@@ -78,10 +66,10 @@ pub read-to-spec : {M : Type 1} → statement M
 read-to-spec =
     tie.close
     (tie.spec
-    read-point-requires
-    no-part-requires
+    (λ c κs. search needs)
+    (λ c κs. search needs)
     returns
-    no-part-requires-2
+    (λ c κs. search needs)
     returns-2
-    cast-t12
+    (λ c. search needs)
     returns-3)

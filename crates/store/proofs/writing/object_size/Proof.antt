@@ -10,15 +10,6 @@ use Rattle.store.specs.WriteLaws.{number-size, shape-size}
 use Rattle.store.proofs.writing.object_size.Statement.{statement}
 use Rattle.store.proofs.writing.object_size.Tie as tie
 
-size-requires : tie.Need-size-requires
-size-requires c κs = search needs
-
-number-size-requires : tie.Need-number-size-requires
-number-size-requires c κs = search needs
-
-shape-size-requires : tie.Need-shape-size-requires
-shape-size-requires c κs = search needs
-
 sizes :
     (c : tie.After-shape-size) →
     let o = c .before .before .before .before .before .before .before .before .before .args .o in
@@ -55,4 +46,4 @@ returns c =
 
 pub object-size-spec : {M : Type 1} → statement M
 object-size-spec =
-    tie.close (tie.spec size-requires number-size-requires shape-size-requires add-result returns)
+    tie.close (tie.spec (λ c κs. search needs) (λ c κs. search needs) (λ c κs. search needs) add-result returns)

@@ -9,18 +9,6 @@ use Rattle.store.specs.WriteLaws.{number-size}
 use Rattle.store.proofs.writing.point_size.Statement.{statement}
 use Rattle.store.proofs.writing.point_size.Tie as tie
 
-stored-requires : tie.Need-stored-requires
-stored-requires c κs = search needs
-
-number-size-requires : tie.Need-number-size-requires
-number-size-requires c κs = search needs
-
-stored-requires-2 : tie.Need-stored-requires-2
-stored-requires-2 c κs = search needs
-
-number-size-requires-2 : tie.Need-number-size-requires-2
-number-size-requires-2 c κs = search needs
-
 sizes :
     (c : tie.After-number-size2) →
     let s = c .before .before .before .before in
@@ -50,9 +38,9 @@ pub point-size-spec : {M : Type 1} → statement M
 point-size-spec =
     tie.close
     (tie.spec
-    stored-requires
-    number-size-requires
-    stored-requires-2
-    number-size-requires-2
+    (λ c κs. search needs)
+    (λ c κs. search needs)
+    (λ c κs. search needs)
+    (λ c κs. search needs)
     add-result
     returns)

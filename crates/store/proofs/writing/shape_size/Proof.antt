@@ -10,24 +10,12 @@ use Rattle.store.specs.WriteLaws.{point-size}
 use Rattle.store.proofs.writing.shape_size.Statement.{statement}
 use Rattle.store.proofs.writing.shape_size.Tie as tie
 
-size-requires : tie.Need-size-requires
-size-requires c κs = search needs
-
-number-size-requires : tie.Need-number-size-requires
-number-size-requires c κs = search needs
-
 returns : tie.Need-returns
 unfolding writeShape
 returns c =
     let s = c .before .before .before in
     let four = eq-eqZ (lit-taken 4 tt (s .fits .kind) (c .before .before .if1 .taken)) in
     simp four (simp (c .before .size .ensures, out-is, s .fits .px) at (c .number-size .ensures))
-
-point-size-requires : tie.Need-point-size-requires
-point-size-requires c κs = search needs
-
-point-size-requires-2 : tie.Need-point-size-requires-2
-point-size-requires-2 c κs = search needs
 
 sizes :
     (c : tie.After-point-size2) →
@@ -61,10 +49,10 @@ pub shape-size-spec : {M : Type 1} → statement M
 shape-size-spec =
     tie.close
     (tie.spec
-    size-requires
-    number-size-requires
+    (λ c κs. search needs)
+    (λ c κs. search needs)
     returns
-    point-size-requires
-    point-size-requires-2
+    (λ c κs. search needs)
+    (λ c κs. search needs)
     add-result
     returns-2)

@@ -10,9 +10,6 @@ use Rattle.store.specs.WriteLaws.{below-size, zigzag-below, zigzag-else}
 use Rattle.store.proofs.writing.stored.Statement.{statement}
 use Rattle.store.proofs.writing.stored.Tie as tie
 
-size-requires : tie.Need-size-requires
-size-requires c κs = search needs
-
 absolute : (c : tie.After-size) → c .size .result ≡ natAbs (c .before .args .z)
 absolute c = c .size .ensures ∙ ap natAbs (out-is (c .before .fits .z))
 
@@ -40,4 +37,4 @@ returns-2 c =
 
 pub stored-spec : {M : Type 1} → statement M
 stored-spec =
-    tie.close (tie.spec size-requires mul-result sub-result returns mul-result-2 returns-2)
+    tie.close (tie.spec (λ c κs. search needs) mul-result sub-result returns mul-result-2 returns-2)

@@ -10,9 +10,6 @@ use Rattle.sheet.specs.LentLaws.{room-one, room-two, wrote-two, wrote-as}
 use Rattle.store.proofs.writing.write_object.Statement.{statement}
 use Rattle.store.proofs.writing.write_object.Tie as tie
 
-size-requires : tie.Need-size-requires
-size-requires c κs = search needs
-
 kind-size : (c : tie.After-size) → c .size .result ≡ natAbs (c .before .before .before .before .before .before .before .args .o .kind)
 kind-size c = c .size .ensures ∙ ap natAbs (out-ok (c .before .before .before .before .before .before .before .args .o .kind)
     (c .before .before .before .before .before .struct-told .given .0 .1))
@@ -48,9 +45,6 @@ write-shape-requires c κs =
     )
     (s .pre .0 .rest, room-two (first (c .before .before .before)) (writeShape (o .kind) (o .px) (o .py) (o .qx) (o .qy)) (s .pre .1))
 
-same-length : tie.Need-same-length
-same-length c = search needs
-
 returns : tie.Need-returns
 unfolding writeObject
 returns c =
@@ -67,4 +61,4 @@ returns c =
 pub write-object-spec : {M : Type 1} → statement M
 write-object-spec =
     tie.close
-    (tie.spec size-requires write-number-requires write-shape-requires same-length returns)
+    (tie.spec (λ c κs. search needs) write-number-requires write-shape-requires (λ c. search needs) returns)

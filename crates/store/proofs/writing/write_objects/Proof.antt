@@ -78,12 +78,6 @@ add-at c = omega (
   c .before .before .before .before .before .before .before .before .pre .0 .1,
 )
 
-sub-left : tie.Need-sub-left Inv-loop μ-loop
-sub-left c = search needs
-
-loop-less : tie.Need-loop-less Inv-loop μ-loop
-loop-less c = search needs
-
 loop-again : tie.Need-loop-again Inv-loop μ-loop
 loop-again c =
     let l = c .before .before .before .before .before .before .loop in
@@ -109,8 +103,8 @@ write-objects-spec =
     object-at-requires
     write-object-requires
     add-at
-    sub-left
-    loop-less
+    (λ c. search needs)
+    (λ c. search needs)
     loop-again
     same-length
     returns)

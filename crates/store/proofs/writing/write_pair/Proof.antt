@@ -29,9 +29,6 @@ write-point-requires-2 c κs =
     simp (out-is, s .fits .qx, s .fits .qy)
     (s .pre .0 .qx, s .pre .0 .qy, room-two (first (c .before .before .before)) (writePoint (s .args .qx) (s .args .qy)) (s .pre .1))
 
-same-length : tie.Need-same-length
-same-length c = search needs
-
 returns : tie.Need-returns
 returns c =
     let s = c .before .before .before .before .before .before .before .before .before in
@@ -40,4 +37,4 @@ returns c =
 
 pub write-pair-spec : {M : Type 1} → statement M
 write-pair-spec =
-    tie.close (tie.spec write-point-requires write-point-requires-2 same-length returns)
+    tie.close (tie.spec write-point-requires write-point-requires-2 (λ c. search needs) returns)

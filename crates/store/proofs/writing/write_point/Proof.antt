@@ -9,12 +9,6 @@ use Rattle.store.specs.WriteLaws.{zigzag-small}
 use Rattle.store.proofs.writing.write_point.Statement.{statement}
 use Rattle.store.proofs.writing.write_point.Tie as tie
 
-stored-requires : tie.Need-stored-requires
-stored-requires c κs = search needs
-
-stored-requires-2 : tie.Need-stored-requires-2
-stored-requires-2 c κs = search needs
-
 store-x : (c : tie.After-stored) → c .stored .result ≡ zigzag (c .before .before .args .x)
 store-x c = simp (c .stored .ensures, out-is, c .before .before .fits .x)
 
@@ -37,9 +31,6 @@ write-number-requires-2 c κs =
     simp (store-y (c .before .before .before .before .before))
     (omega (arith, zigzag-small (s .args .y) (s .pre .1)), room-two first (writeNumber (zigzag (s .args .y))) (s .pre .2))
 
-same-length : tie.Need-same-length
-same-length c = search needs
-
 returns : tie.Need-returns
 returns c =
     let s = c .before .before .before .before .before .before .before .before .before .before .before in
@@ -52,9 +43,9 @@ pub write-point-spec : {M : Type 1} → statement M
 write-point-spec =
     tie.close
     (tie.spec
-    stored-requires
-    stored-requires-2
+    (λ c κs. search needs)
+    (λ c κs. search needs)
     write-number-requires
     write-number-requires-2
-    same-length
+    (λ c. search needs)
     returns)

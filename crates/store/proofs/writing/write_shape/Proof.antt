@@ -7,9 +7,6 @@ use Rattle.store.specs.Stored.{writeShape}
 use Rattle.store.proofs.writing.write_shape.Statement.{statement}
 use Rattle.store.proofs.writing.write_shape.Tie as tie
 
-size-requires : tie.Need-size-requires
-size-requires c κs = search needs
-
 write-number-requires : tie.Need-write-number-requires
 unfolding writeShape
 write-number-requires c κs =
@@ -17,9 +14,6 @@ write-number-requires c κs =
     let four = eq-eqZ (lit-taken 4 tt (s .fits .kind) (c .before .before .if1 .taken)) in
     let room = simp four at (s .pre .1) in
     simp (c .before .size .ensures, out-is, s .fits .px) (omega (arith, s .pre .0 .px), room)
-
-same-length : tie.Need-same-length
-same-length c = search needs
 
 returns : tie.Need-returns
 unfolding writeShape
@@ -36,9 +30,6 @@ write-pair-requires c κs =
     let room = simp other at (s .pre .1) in
     simp (out-is, s .fits .px, s .fits .py, s .fits .qx, s .fits .qy) (s .pre .0, room)
 
-same-length-2 : tie.Need-same-length-2
-same-length-2 c = search needs
-
 returns-2 : tie.Need-returns-2
 unfolding writeShape
 returns-2 c =
@@ -50,10 +41,10 @@ pub write-shape-spec : {M : Type 1} → statement M
 write-shape-spec =
     tie.close
     (tie.spec
-    size-requires
+    (λ c κs. search needs)
     write-number-requires
-    same-length
+    (λ c. search needs)
     returns
     write-pair-requires
-    same-length-2
+    (λ c. search needs)
     returns-2)
