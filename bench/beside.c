@@ -2,7 +2,7 @@
 #include "sheets.h"
 #include <string.h>
 
-int64_t silvanelga_measure_list(const int64_t *list, size_t length, int64_t *rows, size_t room);
+int64_t silvanelga_trial_list(const int64_t *list, size_t length, int64_t *rows, size_t room);
 int64_t other_list(const int64_t *list, size_t length, int64_t *rows, size_t room);
 
 static int64_t list[NUMBERS], rows[ROW * PAIRS], other[ROW * PAIRS];
@@ -13,10 +13,10 @@ int main(void)
         double ours = 0, theirs = 0;
         make_sheet(k, list);
         memset(rows, 1, sizeof rows), memset(other, 1, sizeof other);
-        if (silvanelga_measure_list(list, NUMBERS, rows, ROW * PAIRS) != 0) fail("a sheet was refused");
+        if (silvanelga_trial_list(list, NUMBERS, rows, ROW * PAIRS) != 0) fail("a sheet was refused");
         if (other_list(list, NUMBERS, other, ROW * PAIRS) != 0) fail("the other build refused a sheet");
         if (memcmp(rows, other, sizeof rows) != 0) fail("the two listings differ");
-        RACE(silvanelga_measure_list(list, NUMBERS, rows, ROW * PAIRS), other_list(list, NUMBERS, other, ROW * PAIRS), ours, theirs)
+        RACE(silvanelga_trial_list(list, NUMBERS, rows, ROW * PAIRS), other_list(list, NUMBERS, other, ROW * PAIRS), ours, theirs)
         printf("%s\t%.3f\t%.3f\n", sheets[k].name, theirs / PAIRS, ours / PAIRS);
     }
     return 0;

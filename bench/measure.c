@@ -3,9 +3,9 @@
 #include <string.h>
 
 /* each answers its refusal, 0 for none */
-int64_t silvanelga_measure_list(const int64_t *list, size_t length, int64_t *rows, size_t room);
-int64_t silvanelga_measure_read(const uint8_t *bytes, size_t length, int64_t *list, size_t room);
-int64_t silvanelga_measure_write(const int64_t *list, size_t length, uint8_t *bytes, size_t room);
+int64_t silvanelga_trial_list(const int64_t *list, size_t length, int64_t *rows, size_t room);
+int64_t silvanelga_trial_read(const uint8_t *bytes, size_t length, int64_t *list, size_t room);
+int64_t silvanelga_trial_write(const int64_t *list, size_t length, uint8_t *bytes, size_t room);
 
 enum { BYTES = 2 + 9 * MOST, CGAL_TURNS = 7 };
 
@@ -41,9 +41,9 @@ int main(void)
         make_sheet(k, list);
         memset(rows, 1, sizeof rows), memset(other, 1, sizeof other);
         int64_t n = plain_list(list, NUMBERS, other, ROW * PAIRS);
-        if (n < 0 || silvanelga_measure_list(list, NUMBERS, rows, ROW * PAIRS) != 0) fail("a sheet was refused");
+        if (n < 0 || silvanelga_trial_list(list, NUMBERS, rows, ROW * PAIRS) != 0) fail("a sheet was refused");
         if (memcmp(rows, other, sizeof rows) != 0) fail("the two listings differ");
-        RACE(silvanelga_measure_list(list, NUMBERS, rows, ROW * PAIRS), plain_list(list, NUMBERS, other, ROW * PAIRS), ours, plain)
+        RACE(silvanelga_trial_list(list, NUMBERS, rows, ROW * PAIRS), plain_list(list, NUMBERS, other, ROW * PAIRS), ours, plain)
         printf("%-12s %9lld %12.2f %12.2f %7.2f", sheets[k].name, (long long)n, ours / PAIRS, plain / PAIRS, ours / plain);
         beside_cgal(n, ours);
         printf("\n");
@@ -52,12 +52,12 @@ int main(void)
     double ours = 0, plain = 0;
     for (int i = 0; i < MOST; i++) sides(list + WIDTH * i, i);
     int64_t size = plain_write(list, NUMBERS, again, BYTES);
-    if (size < 0 || silvanelga_measure_write(list, NUMBERS, bytes, BYTES) != 0 || memcmp(bytes, again, BYTES) != 0) fail("the two drawings differ");
-    if (silvanelga_measure_read(bytes, (size_t)size, back, NUMBERS) != 0 || memcmp(list, back, sizeof list) != 0) fail("the drawing did not come back");
+    if (size < 0 || silvanelga_trial_write(list, NUMBERS, bytes, BYTES) != 0 || memcmp(bytes, again, BYTES) != 0) fail("the two drawings differ");
+    if (silvanelga_trial_read(bytes, (size_t)size, back, NUMBERS) != 0 || memcmp(list, back, sizeof list) != 0) fail("the drawing did not come back");
     printf("\n%-12s %9s %12s %12s %7s\n", "drawing", "bytes", "ns a byte", "plain C", "ratio");
-    RACE(silvanelga_measure_write(list, NUMBERS, bytes, BYTES), plain_write(list, NUMBERS, again, BYTES), ours, plain)
+    RACE(silvanelga_trial_write(list, NUMBERS, bytes, BYTES), plain_write(list, NUMBERS, again, BYTES), ours, plain)
     printf("%-12s %9lld %12.2f %12.2f %7.2f\n", "write", (long long)size, ours / (double)size, plain / (double)size, ours / plain);
-    RACE(silvanelga_measure_read(bytes, (size_t)size, back, NUMBERS), plain_read(bytes, (size_t)size, list, NUMBERS), ours, plain)
+    RACE(silvanelga_trial_read(bytes, (size_t)size, back, NUMBERS), plain_read(bytes, (size_t)size, list, NUMBERS), ours, plain)
     printf("%-12s %9lld %12.2f %12.2f %7.2f\n", "read", (long long)size, ours / (double)size, plain / (double)size, ours / plain);
     return 0;
 }

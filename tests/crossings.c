@@ -5,14 +5,14 @@
 #include <stdio.h>
 #include <stdlib.h>
 
-int64_t silvanelga_measure_list(const int64_t *list, size_t length, int64_t *rows, size_t room);
+int64_t silvanelga_trial_list(const int64_t *list, size_t length, int64_t *rows, size_t room);
 
 enum { OBJECTS = 24, WIDTH = 5, ROW = 8, PAIRS = OBJECTS * (OBJECTS - 1) / 2, SHORT = 10 };
 
 static long counted(const int64_t *list, int64_t *rows, size_t room, int64_t due)
 {
     int64_t refusal;
-    COUNTED(refusal = silvanelga_measure_list(list, OBJECTS * WIDTH, rows, room));
+    COUNTED(refusal = silvanelga_trial_list(list, OBJECTS * WIDTH, rows, room));
     if (refusal != due) exit(2);
     return steps;
 }

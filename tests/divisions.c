@@ -9,8 +9,8 @@
 #include <string.h>
 
 typedef struct { int64_t refusal, number; double values[4]; } shown;
-shown silvanelga_measure_place(int64_t mx, int64_t nx, int64_t my, int64_t ny, int64_t w);
-int64_t silvanelga_measure_list(const int64_t *list, size_t length, int64_t *rows, size_t room);
+shown silvanelga_trial_place(int64_t mx, int64_t nx, int64_t my, int64_t ny, int64_t w);
+int64_t silvanelga_trial_list(const int64_t *list, size_t length, int64_t *rows, size_t room);
 
 enum { NUMBERS = 5, OBJECTS = 2, ROW = 8, ONE_POINT = 1 };
 
@@ -61,7 +61,7 @@ int main(void)
             shown place;
             uint64_t divisor;
             read_numbers(n, NUMBERS);
-            COUNTED(place = silvanelga_measure_place(n[0], n[1], n[2], n[3], n[4]));
+            COUNTED(place = silvanelga_trial_place(n[0], n[1], n[2], n[3], n[4]));
             library = divisions;
             COUNTED(divisor = before_divisor(n));
             if (place.refusal == 0 && divisor != 1) fail("a point has a divisor");
@@ -69,7 +69,7 @@ int main(void)
             int64_t refusal;
             read_numbers(list, OBJECTS * NUMBERS);
             read_numbers(n, NUMBERS);
-            COUNTED(refusal = silvanelga_measure_list(list, OBJECTS * NUMBERS, row, ROW));
+            COUNTED(refusal = silvanelga_trial_list(list, OBJECTS * NUMBERS, row, ROW));
             library = divisions;
             COUNTED(before_divided(n));
             if (refusal != 0 || row[2] != ONE_POINT || memcmp(row + 3, n, sizeof n) != 0) fail("a pair shares another point");

@@ -6,8 +6,8 @@
 #include <stdlib.h>
 #include <string.h>
 
-int64_t silvanelga_measure_read(const uint8_t *bytes, size_t length, int64_t *list, size_t room);
-int64_t silvanelga_measure_write(const int64_t *list, size_t length, uint8_t *bytes, size_t room);
+int64_t silvanelga_trial_read(const uint8_t *bytes, size_t length, int64_t *list, size_t room);
+int64_t silvanelga_trial_write(const int64_t *list, size_t length, uint8_t *bytes, size_t room);
 
 enum { WIDTH = 5, LENT = 77, UNTOUCHED = 170 };
 
@@ -23,9 +23,9 @@ static int64_t comes_back(const int64_t *list, size_t numbers, const uint8_t *by
 {
     uint8_t *again = held(length);
     memset(again, UNTOUCHED, length);
-    int64_t same = silvanelga_measure_write(list, numbers, again, length - 1) == 10;
+    int64_t same = silvanelga_trial_write(list, numbers, again, length - 1) == 10;
     for (size_t k = 0; k < length; k++) same &= again[k] == UNTOUCHED;
-    same &= silvanelga_measure_write(list, numbers, again, length) == 0 && memcmp(again, bytes, length) == 0;
+    same &= silvanelga_trial_write(list, numbers, again, length) == 0 && memcmp(again, bytes, length) == 0;
     free(again);
     return same;
 }
@@ -40,7 +40,7 @@ int main(void)
         if (fread(bytes, 1, length, stdin) != length) return 3;
         memcpy(kept, bytes, length);
         for (size_t k = 0; k < room; k++) list[k] = LENT;
-        int64_t refusal = silvanelga_measure_read(bytes, length, list, room);
+        int64_t refusal = silvanelga_trial_read(bytes, length, list, room);
         int64_t same = refusal == 0 && numbers <= room ? comes_back(list, numbers, bytes, length) : 0;
         if (memcmp(kept, bytes, length) != 0) return 4;
         fwrite(&refusal, sizeof refusal, 1, stdout);

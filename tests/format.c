@@ -5,8 +5,8 @@
 #include <stdlib.h>
 #include <string.h>
 
-int64_t silvanelga_measure_read(const uint8_t *bytes, size_t length, int64_t *list, size_t room);
-int64_t silvanelga_measure_list(const int64_t *list, size_t length, int64_t *rows, size_t room);
+int64_t silvanelga_trial_read(const uint8_t *bytes, size_t length, int64_t *list, size_t room);
+int64_t silvanelga_trial_list(const int64_t *list, size_t length, int64_t *rows, size_t room);
 
 enum { USAGE = 2, GIVEN = 3, MOST = 4096, UNTOUCHED = 7 };
 
@@ -22,8 +22,8 @@ int main(int count, char **arguments)
         bytes[k] = (uint8_t)list[k];
     }
     for (size_t k = 0; k < room; k++) cells[k] = UNTOUCHED;
-    int64_t refusal = strcmp(arguments[1], "read") == 0 ? silvanelga_measure_read(bytes, length, cells, room)
-                                                          : silvanelga_measure_list(list, length, cells, room);
+    int64_t refusal = strcmp(arguments[1], "read") == 0 ? silvanelga_trial_read(bytes, length, cells, room)
+                                                          : silvanelga_trial_list(list, length, cells, room);
     printf("%lld", (long long)refusal);
     for (size_t k = 0; k < room; k++) printf(" %lld", (long long)cells[k]);
     putchar('\n');

@@ -7,8 +7,8 @@
 
 struct shown { int64_t refusal, number; double first, second, third, fourth; };
 
-struct shown silvanelga_measure_place(int64_t mx, int64_t nx, int64_t my, int64_t ny, int64_t w);
-struct shown silvanelga_measure_box(const int64_t *list, size_t length);
+struct shown silvanelga_trial_place(int64_t mx, int64_t nx, int64_t my, int64_t ny, int64_t w);
+struct shown silvanelga_trial_box(const int64_t *list, size_t length);
 
 enum { POINT, SHEET, WIDTH = 5 };
 
@@ -27,7 +27,7 @@ int main(void)
         int64_t *n = held(length), *kept = held(length);
         if (fread(n, 1, size, stdin) != size || (head[0] == POINT && length != WIDTH)) return 3;
         memcpy(kept, n, size);
-        struct shown said = head[0] == POINT ? silvanelga_measure_place(n[0], n[1], n[2], n[3], n[4]) : silvanelga_measure_box(n, length);
+        struct shown said = head[0] == POINT ? silvanelga_trial_place(n[0], n[1], n[2], n[3], n[4]) : silvanelga_trial_box(n, length);
         if (memcmp(kept, n, size) != 0) return 4;
         fwrite(&said, sizeof said, 1, stdout);
         free(n), free(kept);

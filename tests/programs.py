@@ -64,7 +64,7 @@ def archive(name):
     return library
 
 
-def driver(name, *flags, crate='measure'):
+def driver(name, *flags, crate='trial'):
     """A C program of tests/ that calls a crate; the command that runs it."""
     library, program = archive(crate), f'target/{name}'
     subprocess.run([compiler(), '-O2', '-Wall', '-Wextra', *flags, '-static', f'tests/{name}.c', library, '-o', program], check=True)

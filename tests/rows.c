@@ -7,8 +7,8 @@
 #include <stdlib.h>
 #include <string.h>
 
-int64_t silvanelga_measure_list(const int64_t *list, size_t length, int64_t *rows, size_t room);
-int64_t silvanelga_measure_write(const int64_t *list, size_t length, uint8_t *bytes, size_t room);
+int64_t silvanelga_trial_list(const int64_t *list, size_t length, int64_t *rows, size_t room);
+int64_t silvanelga_trial_write(const int64_t *list, size_t length, uint8_t *bytes, size_t room);
 
 enum { LENT = 77 };
 
@@ -35,9 +35,9 @@ int main(void)
         memcpy(kept, list, size);
         for (size_t k = 0; k < room; k++) rows[k] = LENT;
         memset(bytes, LENT, byte_room);
-        put(silvanelga_measure_list(list, length, rows, room));
+        put(silvanelga_trial_list(list, length, rows, room));
         for (size_t k = 0; k < room; k++) put(rows[k]);
-        put(silvanelga_measure_write(list, length, bytes, byte_room));
+        put(silvanelga_trial_write(list, length, bytes, byte_room));
         for (size_t k = 0; k < byte_room; k++) put(bytes[k]);
         if (memcmp(kept, list, size) != 0) return 4;
         free(list), free(kept), free(rows), free(bytes);

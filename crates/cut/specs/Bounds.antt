@@ -6,8 +6,8 @@ abbrev pub endsNeed : ℕ
 endsNeed = 8000000
 
 -- an end against a side: two such n
-abbrev pub touchNeed : ℕ
-touchNeed = 16000000
+abbrev pub meetNeed : ℕ
+meetNeed = 16000000
 
 -- crossing: a standard point's n
 abbrev pub crossingNeed : ℕ

@@ -18,9 +18,9 @@ use Rattle.sheet.specs.declared.Point.{Point}
 use Rattle.sheet.specs.Circle.{circlePoly, sideOfCircle}
 use Rattle.sheet.specs.CircleLaws.{Over, circleZ, circle-value, Four}
 use Rattle.sheet.specs.Angles.{circleNeed, circle-settled}
-use Rattle.cut.specs.Place.{put, Spot}
+use Rattle.cut.specs.Place.{put, Spot, placeOf}
 use Rattle.cut.specs.Ordinary.{rows1XY, squared, circleDeterminant, signOf}
-use Rattle.cut.specs.Same.{placeOf, spotAt}
+use Rattle.cut.specs.Same.{spotAt}
 use Rattle.cut.specs.TurnAt.{detOf}
 
 pub sign-equal : {a b : Fraction} → Equal a b → signOf a ≡ signOf b

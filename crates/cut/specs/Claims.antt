@@ -34,7 +34,7 @@ pub record SharedPoint (R : ℤ) (a b : Object) (e : Point) : Type 0 where
   pub only : OnlyShared R a b (put R e above)
 
 -- the answer m is a point, and P is its place
-pub record Answered (R : ℤ) (m : Meeting) (P : Place) : Type 0 where
+pub record PointGiven (R : ℤ) (m : Meeting) (P : Place) : Type 0 where
   pub e : Point
   pub is-said : m ≡ point e
   pub above : pos 0 <ℤ e .w
@@ -44,7 +44,7 @@ pub record Answered (R : ℤ) (m : Meeting) (P : Place) : Type 0 where
 -- they share nothing"
 pub record CrossingHolds (R : ℤ) (a b : Object) : Type 0 where
   pub point-said : (e : Point) → crossingOf a b ≡ point e → SharedPoint R a b e
-  pub point-when : (P : Place) → OnlyShared R a b P → Answered R (crossingOf a b) P
+  pub point-when : (P : Place) → OnlyShared R a b P → PointGiven R (crossingOf a b) P
   pub many-exactly : (crossingOf a b ≡ many) ↔ MoreShared R a b
   pub none-exactly : (crossingOf a b ≡ none) ↔ NothingShared R a b
 

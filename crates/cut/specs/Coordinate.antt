@@ -10,12 +10,13 @@ use Rattle.whole.specs.Reify.{reify, reading, solve, val-pos}
 use Rattle.whole.specs.Order.{lt-cert}
 use Rattle.whole.specs.Sign.{sgn}
 use Rattle.whole.specs.SignLaws.{Signs, signs, minus, nought, plus, sgn-pos, pos-of-sgn, sgn-zero, sgn-neg-eq, sgn-mul-pos, neg-pp}
-use Rattle.whole.specs.Bound.{Within, w-neg, w-sub, w-mul, w-pos, w-lit}
+use Rattle.whole.specs.Within.{Within}
+use Rattle.whole.specs.Bound.{w-neg, w-sub, w-mul, w-pos, w-lit}
 use Rattle.whole.specs.Cert.{z-eq, z-add, eq-cert}
-use Rattle.whole.specs.Poly.{first}
+use Rattle.whole.specs.Choice.{orElse}
 use Rattle.whole.specs.Lead.{small, lead-step}
 use Rattle.sheet.specs.declared.Point.{Point}
-use Rattle.sheet.specs.PointsLaws.{APoint, a-standard, a-frame}
+use Rattle.sheet.specs.PointFacts.{APoint, a-standard, a-frame}
 use Rattle.cut.specs.Bounds.{orderNeed}
 
 -- "Standard: mx = my = 0 .. nx and ny within 64,000,000,000 .. Frame: w at most 4,000 .. Each n is within 8,000,000"
@@ -31,7 +32,7 @@ pub y-of : {p : Point} → APoint p → Coordinate (p .my) (p .ny) (p .w)
 y-of (a-standard s e) = standard (s .no-my) (s .in-ny) (s .in-w .above)
 y-of (a-frame f e) = frame (f .slim .in-ny) (f .slim .in-w .at-most)
 
-pub constant : (R b c : ℤ) → b ≡ pos 0 → sgn (b *ℤ R +ℤ c) ≡ first (sgn b) (sgn c)
+pub constant : (R b c : ℤ) → b ≡ pos 0 → sgn (b *ℤ R +ℤ c) ≡ orElse (sgn b) (sgn c)
 constant R b c e = simp (e, zero-*ℤ, +ℤ-idl, sgn-zero)
 
 module _ {R : ℤ} (hR : pos orderNeed <ℤ R) where
@@ -42,23 +43,23 @@ module _ {R : ℤ} (hR : pos orderNeed <ℤ R) where
   far m n hm hn =
       lt-cert _
       (pos-of-sgn (lead-step m (n -ℤ pos 256000000000000) R (small (w-sub hn (w-pos 256000000000000)) hR)
-      ∙ ap (λ (s : ℤ). first s (sgn (n -ℤ pos 256000000000000))) (sgn-pos hm)))
+      ∙ ap (λ (s : ℤ). orElse s (sgn (n -ℤ pos 256000000000000))) (sgn-pos hm)))
       (+ℤ-assoc (m *ℤ R) n (negℤ (pos 256000000000000)))
 
   outweighs : (m n w k : ℤ) → pos 0 <ℤ m → Within 8000000 n → pos 0 <ℤ w → Within 256000000000000 k
       → sgn (w *ℤ (m *ℤ R +ℤ n) +ℤ k) ≡ pos 1
   outweighs m n w k hm hn hw hk =
-      lead-step w k (m *ℤ R +ℤ n) (small hk (far m n hm hn)) ∙ ap (λ (s : ℤ). first s (sgn k)) (sgn-pos hw)
+      lead-step w k (m *ℤ R +ℤ n) (small hk (far m n hm hn)) ∙ ap (λ (s : ℤ). orElse s (sgn k)) (sgn-pos hw)
 
   -- so m decides; where it is 0 there is no R
   frame-leads : (m n w k : ℤ) {b c : ℤ} → Within 8000000 n → pos 0 <ℤ w → Within 256000000000000 k → b ≡ m *ℤ w → c ≡ n *ℤ w +ℤ k
-      → sgn (b *ℤ R +ℤ c) ≡ first (sgn b) (sgn c)
+      → sgn (b *ℤ R +ℤ c) ≡ orElse (sgn b) (sgn c)
   frame-leads m n w k {b} {c} hn hw hk eb ec = go (signs m)
     where
-      by-m : {s : ℤ} → sgn m ≡ s → first s (sgn c) ≡ first (sgn b) (sgn c)
-      by-m e = sym (ap (λ (s : ℤ). first s (sgn c)) (ap sgn eb ∙ sgn-mul-pos m w hw ∙ e))
+      by-m : {s : ℤ} → sgn m ≡ s → orElse s (sgn c) ≡ orElse (sgn b) (sgn c)
+      by-m e = sym (ap (λ (s : ℤ). orElse s (sgn c)) (ap sgn eb ∙ sgn-mul-pos m w hw ∙ e))
 
-      go : Signs m → sgn (b *ℤ R +ℤ c) ≡ first (sgn b) (sgn c)
+      go : Signs m → sgn (b *ℤ R +ℤ c) ≡ orElse (sgn b) (sgn c)
       go (nought z e) = constant R b c (eb ∙ ap (λ (x : ℤ). x *ℤ w) z ∙ zero-*ℤ w)
       go (plus h e) =
           ap sgn (eq-cert _ (z-add (z-eq R eb) (z-eq (pos 1) ec))
@@ -76,7 +77,7 @@ module _ {R : ℤ} (hR : pos orderNeed <ℤ R) where
 
   module _ (m n w m′ n′ w′ : ℤ) where
     leads : Coordinate m n w → Coordinate m′ n′ w′
-        → sgn ((m *ℤ w′ -ℤ m′ *ℤ w) *ℤ R +ℤ (n *ℤ w′ -ℤ n′ *ℤ w)) ≡ first (sgn (m *ℤ w′ -ℤ m′ *ℤ w)) (sgn (n *ℤ w′ -ℤ n′ *ℤ w))
+        → sgn ((m *ℤ w′ -ℤ m′ *ℤ w) *ℤ R +ℤ (n *ℤ w′ -ℤ n′ *ℤ w)) ≡ orElse (sgn (m *ℤ w′ -ℤ m′ *ℤ w)) (sgn (n *ℤ w′ -ℤ n′ *ℤ w))
     leads (standard e hn hw) (standard e′ hn′ hw′) =
         constant R (m *ℤ w′ -ℤ m′ *ℤ w) (n *ℤ w′ -ℤ n′ *ℤ w)
         (eq-cert _ (z-add (z-eq w′ e) (z-eq (negℤ w) e′))
@@ -93,7 +94,7 @@ module _ {R : ℤ} (hR : pos orderNeed <ℤ R) where
         lead-step (m *ℤ w′ -ℤ m′ *ℤ w) (n *ℤ w′ -ℤ n′ *ℤ w) R (small (w-lit (w-sub (w-mul hn hw′) (w-mul hn′ hw)) tt) hR)
 
     pub coordinate-at : Coordinate m n w → Coordinate m′ n′ w′
-        → sgn ((m *ℤ R +ℤ n) *ℤ w′ -ℤ (m′ *ℤ R +ℤ n′) *ℤ w) ≡ first (sgn (m *ℤ w′ -ℤ m′ *ℤ w)) (sgn (n *ℤ w′ -ℤ n′ *ℤ w))
+        → sgn ((m *ℤ R +ℤ n) *ℤ w′ -ℤ (m′ *ℤ R +ℤ n′) *ℤ w) ≡ orElse (sgn (m *ℤ w′ -ℤ m′ *ℤ w)) (sgn (n *ℤ w′ -ℤ n′ *ℤ w))
     coordinate-at a b =
         ap sgn (reify (R ∷ m ∷ n ∷ w ∷ m′ ∷ n′ ∷ w′ ∷ []) (λ ρ v. simp (reading, v 0, v 1, v 2, v 3, v 4, v 5, v 6) (solve _ _ _ tt)))
         ∙ leads a b

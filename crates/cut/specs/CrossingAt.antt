@@ -1,6 +1,6 @@
 -- The crossing of two objects at R, in places: for every R of 64,000,000,000 or more. To cite:
---   meeting-says              of two figures that a sheet takes: what `meeting` says of the spots on both
---   Tells, tells, crossing-tells   of two accepted objects: what `crossingOf` says of the places that they share
+--   meeting-means             of two figures that a sheet takes: what `meeting` says of the spots on both
+--   Shares, shares-by, crossing-shares   of two accepted objects: what `crossingOf` says of the places that they share
 --   point-said                the point that is said
 --   none-when, many-when, point-when   and it says so just then
 use mathlib.Core.Path.{_≡_, refl, subst}
@@ -15,35 +15,36 @@ use Rattle.sheet.specs.declared.Point.{Point}
 use Rattle.sheet.specs.Figure.{Vec, _⇀_, Side, Figure, segment, ray, line, side, figure}
 use Rattle.sheet.specs.Refusal.{Accepted}
 use Rattle.sheet.specs.RefusalLaws.{Proper, Drawn, draw-segment, draw-ray, draw-line, draw-side, accepted-drawn}
-use Rattle.sheet.specs.PointsLaws.{APoint, point-is}
+use Rattle.sheet.specs.PointFacts.{APoint}
+use Rattle.sheet.specs.PointsLaws.{point-is}
 use Rattle.sheet.specs.EndsLaws.{proper-way}
-use Rattle.sheet.specs.Crossing.{Meeting, none, point, many, Limit, Piece, segmentPiece, rayPiece, linePiece, dot, pieces, withSide, withPiece, meeting, crossingOf}
+use Rattle.sheet.specs.Crossing.{Meeting, none, point, many, Limit, Stretch, segmentStretch, rayStretch, lineStretch, dot, stretches, withSide, withStretch, meeting, crossingOf}
 use Rattle.cut.specs.Bounds.{crossingNeed}
-use Rattle.cut.specs.Place.{Place, SamePlace, put, Spot, spot}
+use Rattle.cut.specs.Place.{Place, SamePlace, put, Spot, spot, placeOf}
 use Rattle.cut.specs.Cut.{On, on-segment, on-ray, on-line, Shared, OnlyShared, MoreShared, NothingShared}
-use Rattle.cut.specs.Claims.{Answered, SharedPoint}
-use Rattle.cut.specs.Same.{same-sym, same-trans, same-place, same-spot, placeOf, place-spot, spotAt, put-spot, on-same, of-segment, of-ray, of-line}
+use Rattle.cut.specs.Claims.{PointGiven, SharedPoint}
+use Rattle.cut.specs.Same.{same-sym, same-trans, same-place, same-spot, place-spot, spotAt, put-spot, on-same, of-segment, of-ray, of-line}
 use Rattle.cut.specs.Line.{size², online-p, online-q}
 use Rattle.cut.specs.Square.{larger-square, segment-small, length-pq}
-use Rattle.cut.specs.Pieces.{after-free, after-till, before-free, before-till, of-after, of-before, Part, Marked, marked-free, marked-till, Marks, marks-free, marks-till, Fit}
-use Rattle.cut.specs.Says.{Both, both-swap, both-map, Says, says-none, says-point, says-many, says-map}
-use Rattle.cut.specs.Skew.{pieces-says}
+use Rattle.cut.specs.Stretches.{after-free, after-till, before-free, before-till, of-after, of-before, Part, Marked, marked-free, marked-till, Marks, marks-free, marks-till, Sound}
+use Rattle.cut.specs.Means.{Both, both-swap, both-map, Means, means-none, means-point, means-many, means-map}
+use Rattle.cut.specs.Skew.{stretches-mean}
 use Rattle.cut.specs.SideMeets.{segment-says, ray-says, line-says}
-use Rattle.cut.specs.SidesMeet.{sides-says}
+use Rattle.cut.specs.SidesMeet.{sides-means}
 
--- ---- a figure of the first three kinds is a piece in the square
+-- ---- a figure of the first three kinds is a stretch in the square
 
-data Linear : Figure → Piece → Type 0 where
-  is-segment : {p q : Vec} → Proper p q → Linear (segment p q) (segmentPiece p q)
-  is-ray : {p q : Vec} → Proper p q → Linear (ray p q) (rayPiece p q)
-  is-line : {p q : Vec} → Proper p q → Linear (line p q) (linePiece p q)
+data Linear : Figure → Stretch → Type 0 where
+  is-segment : {p q : Vec} → Proper p q → Linear (segment p q) (segmentStretch p q)
+  is-ray : {p q : Vec} → Proper p q → Linear (ray p q) (rayStretch p q)
+  is-line : {p q : Vec} → Proper p q → Linear (line p q) (lineStretch p q)
 
 mark-q : (p q : Vec) → dot (p ⇀ q) q ≡ dot (p ⇀ q) p +ℤ size² (p ⇀ q)
 mark-q p q = reify (p .x ∷ p .y ∷ q .x ∷ q .y ∷ []) (λ ρ v. simp (reading, v 0, v 1, v 2, v 3) (solve _ _ _ tt))
 
 fit-by : {p q : Vec} {l h : Limit} → Proper p q → Marked p (p ⇀ q) l → Marked p (p ⇀ q) h
     → Marks (p ⇀ q) (dot (p ⇀ q) p) l → Marks (p ⇀ q) (dot (p ⇀ q) p +ℤ size² (p ⇀ q)) h
-    → Fit (record { p = p; d = p ⇀ q; start = l; stop = h })
+    → Sound (record { p = p; d = p ⇀ q; start = l; stop = h })
 fit-by a l h u v = record {
   small-p = a .small-p;
   way = proper-way a;
@@ -54,13 +55,13 @@ fit-by a l h u v = record {
   at-q = v;
 }
 
-fit : {f : Figure} {A : Piece} → Linear f A → Fit A
+fit : {f : Figure} {A : Stretch} → Linear f A → Sound A
 fit (is-segment {p = p} {q = q} a) =
     fit-by a (marked-till (online-p p (p ⇀ q)) (a .small-p)) (marked-till (online-q p q) (a .small-q)) (marks-till refl) (marks-till (mark-q p q))
 fit (is-ray {p = p} {q = q} a) = fit-by a (marked-till (online-p p (p ⇀ q)) (a .small-p)) marked-free (marks-till refl) marks-free
 fit (is-line a) = fit-by a marked-free marked-free marks-free marks-free
 
-part-on : {R : ℤ} → pos 2000 ≤ℤ R → {f : Figure} {A : Piece} → Linear f A → (S : Spot) → Part R A S ↔ On R f S
+part-on : {R : ℤ} → pos 2000 ≤ℤ R → {f : Figure} {A : Stretch} → Linear f A → (S : Spot) → Part R A S ↔ On R f S
 part-on hR (is-segment a) S = (
   (λ c. on-segment (record {
     on = c .on;
@@ -92,38 +93,38 @@ part-on hR (is-line a) S = (
 -- ---- all figures
 
 module _ {R : ℤ} (hR : pos crossingNeed ≤ℤ R) where
-  both-linear : {f g : Figure} {A B : Piece} → Linear f A → Linear g B → Says R (Both (On R f) (On R g)) (pieces A B)
+  both-linear : {f g : Figure} {A B : Stretch} → Linear f A → Linear g B → Means R (Both (On R f) (On R g)) (stretches A B)
   both-linear {A = A} {B = B} a b =
       let h : pos 2000 ≤ℤ R = ≤-trans (leZ-yes tt) hR in
-      says-map (both-map (part-on h a) (part-on h b)) (pieces-says hR A B (fit a) (fit b))
+      means-map (both-map (part-on h a) (part-on h b)) (stretches-mean hR A B (fit a) (fit b))
 
-  side-says : (n : Side) {f : Figure} → Drawn f → Says R (Both (On R (side n)) (On R f)) (withSide n f)
+  side-means : (n : Side) {f : Figure} → Drawn f → Means R (Both (On R (side n)) (On R f)) (withSide n f)
   unfolding withSide
-  side-says n (draw-segment a) = segment-says (<-≤-trans (ltZ-yes tt) hR) a n
-  side-says n (draw-ray a) = ray-says (<-≤-trans (ltZ-yes tt) hR) a n
-  side-says n (draw-line a) = line-says (<-≤-trans (ltZ-yes tt) hR) a n
-  side-says n (draw-side {n = m}) = sides-says (<-≤-trans (ltZ-yes tt) hR) n m
+  side-means n (draw-segment a) = segment-says (<-≤-trans (ltZ-yes tt) hR) a n
+  side-means n (draw-ray a) = ray-says (<-≤-trans (ltZ-yes tt) hR) a n
+  side-means n (draw-line a) = line-says (<-≤-trans (ltZ-yes tt) hR) a n
+  side-means n (draw-side {n = m}) = sides-means (<-≤-trans (ltZ-yes tt) hR) n m
 
-  linear-says : {f g : Figure} {A : Piece} → Linear f A → Drawn f → Drawn g → Says R (Both (On R f) (On R g)) (withPiece f A g)
-  unfolding withPiece
-  linear-says a t (draw-segment b) = both-linear a (is-segment b)
-  linear-says a t (draw-ray b) = both-linear a (is-ray b)
-  linear-says a t (draw-line b) = both-linear a (is-line b)
-  linear-says a t (draw-side {n = n}) = says-map both-swap (side-says n t)
+  linear-means : {f g : Figure} {A : Stretch} → Linear f A → Drawn f → Drawn g → Means R (Both (On R f) (On R g)) (withStretch f A g)
+  unfolding withStretch
+  linear-means a t (draw-segment b) = both-linear a (is-segment b)
+  linear-means a t (draw-ray b) = both-linear a (is-ray b)
+  linear-means a t (draw-line b) = both-linear a (is-line b)
+  linear-means a t (draw-side {n = n}) = means-map both-swap (side-means n t)
 
-  pub meeting-says : {f g : Figure} → Drawn f → Drawn g → Says R (Both (On R f) (On R g)) (meeting f g)
+  pub meeting-means : {f g : Figure} → Drawn f → Drawn g → Means R (Both (On R f) (On R g)) (meeting f g)
   unfolding meeting
-  meeting-says (draw-segment a) b = linear-says (is-segment a) (draw-segment a) b
-  meeting-says (draw-ray a) b = linear-says (is-ray a) (draw-ray a) b
-  meeting-says (draw-line a) b = linear-says (is-line a) (draw-line a) b
-  meeting-says (draw-side {n = n}) b = side-says n b
+  meeting-means (draw-segment a) b = linear-means (is-segment a) (draw-segment a) b
+  meeting-means (draw-ray a) b = linear-means (is-ray a) (draw-ray a) b
+  meeting-means (draw-line a) b = linear-means (is-line a) (draw-line a) b
+  meeting-means (draw-side {n = n}) b = side-means n b
 
 -- ---- of places
 
-pub data Tells (R : ℤ) (a b : Object) : Meeting → Type 0 where
-  tells-none : NothingShared R a b → Tells R a b none
-  tells-point : {e : Point} (h : pos 0 <ℤ e .w) → APoint e → OnlyShared R a b (put R e h) → Tells R a b (point e)
-  tells-many : MoreShared R a b → Tells R a b many
+pub data Shares (R : ℤ) (a b : Object) : Meeting → Type 0 where
+  shares-none : NothingShared R a b → Shares R a b none
+  shares-point : {e : Point} (h : pos 0 <ℤ e .w) → APoint e → OnlyShared R a b (put R e h) → Shares R a b (point e)
+  shares-many : MoreShared R a b → Shares R a b many
 
 module _ {R : ℤ} {a b : Object} where
   spot-of : {P : Place} → Shared R a b P → Both (On R (figure a)) (On R (figure b)) (spot P)
@@ -135,13 +136,13 @@ module _ {R : ℤ} {a b : Object} where
     on-second = record { lies = on-same (place-spot S) (s .second) };
   }
 
-  pub tells : {m : Meeting} → Says R (Both (On R (figure a)) (On R (figure b))) m → Tells R a b m
-  tells (says-none f) = tells-none (record { nothing = λ P s. f (spot P) (spot-of s) })
-  tells (says-point {e = e} h i s u) = tells-point h i (record {
+  pub shares-by : {m : Meeting} → Means R (Both (On R (figure a)) (On R (figure b))) m → Shares R a b m
+  shares-by (means-none f) = shares-none (record { nothing = λ P s. f (spot P) (spot-of s) })
+  shares-by (means-point {e = e} h i s u) = shares-point h i (record {
     is-shared = place-of (spotAt R e h) s;
     no-other = λ Q t. same-place Q (put R e h) (same-trans (u (spot Q) (spot-of t)) (put-spot R e h));
   })
-  tells (says-many P Q s t n) = tells-many (record {
+  shares-by (means-many P Q s t n) = shares-many (record {
     one = placeOf P;
     other = placeOf Q;
     one-shared = place-of P s;
@@ -149,9 +150,9 @@ module _ {R : ℤ} {a b : Object} where
     differ = λ e. n (same-trans (place-spot P) (same-trans (same-spot (placeOf P) (placeOf Q) e) (same-sym (place-spot Q))));
   })
 
-pub crossing-tells : {R : ℤ} → pos crossingNeed ≤ℤ R → {a b : Object} → Accepted a → Accepted b → Tells R a b (crossingOf a b)
+pub crossing-shares : {R : ℤ} → pos crossingNeed ≤ℤ R → {a b : Object} → Accepted a → Accepted b → Shares R a b (crossingOf a b)
 unfolding crossingOf
-crossing-tells hR a b = tells (meeting-says hR (accepted-drawn a) (accepted-drawn b))
+crossing-shares hR a b = shares-by (meeting-means hR (accepted-drawn a) (accepted-drawn b))
 
 -- ---- and just then
 
@@ -159,26 +160,26 @@ same-two : (P Q E : Place) → SamePlace P E → SamePlace Q E → SamePlace P Q
 same-two P Q E a b = same-place P Q (same-trans (same-spot P E a) (same-sym (same-spot Q E b)))
 
 module _ {R : ℤ} {a b : Object} where
-  pub none-when : {m : Meeting} → Tells R a b m → NothingShared R a b → m ≡ none
-  none-when (tells-none f) n = refl
-  none-when (tells-point {e = e} h i o) n = absurd (n .nothing (put R e h) (o .is-shared))
-  none-when (tells-many w) n = absurd (n .nothing (w .one) (w .one-shared))
+  pub none-when : {m : Meeting} → Shares R a b m → NothingShared R a b → m ≡ none
+  none-when (shares-none f) n = refl
+  none-when (shares-point {e = e} h i o) n = absurd (n .nothing (put R e h) (o .is-shared))
+  none-when (shares-many w) n = absurd (n .nothing (w .one) (w .one-shared))
 
-  pub point-said : {m : Meeting} → Tells R a b m → (e : Point) → m ≡ point e → SharedPoint R a b e
-  point-said t e q = go (subst (Tells R a b) q t)
+  pub point-said : {m : Meeting} → Shares R a b m → (e : Point) → m ≡ point e → SharedPoint R a b e
+  point-said t e q = go (subst (Shares R a b) q t)
     where
-      go : Tells R a b (point e) → SharedPoint R a b e
-      go (tells-point h i o) = record { is-point = point-is e .1 i; above = h; only = o }
+      go : Shares R a b (point e) → SharedPoint R a b e
+      go (shares-point h i o) = record { is-point = point-is e .1 i; above = h; only = o }
 
   apart : (P : Place) → OnlyShared R a b P → MoreShared R a b → ⊥
   apart P o w = w .differ (same-two (w .one) (w .other) P (o .no-other (w .one) (w .one-shared)) (o .no-other (w .other) (w .other-shared)))
 
-  pub many-when : {m : Meeting} → Tells R a b m → MoreShared R a b → m ≡ many
-  many-when (tells-none f) w = absurd (f .nothing (w .one) (w .one-shared))
-  many-when (tells-point {e = e} h i o) w = absurd (apart (put R e h) o w)
-  many-when (tells-many v) w = refl
+  pub many-when : {m : Meeting} → Shares R a b m → MoreShared R a b → m ≡ many
+  many-when (shares-none f) w = absurd (f .nothing (w .one) (w .one-shared))
+  many-when (shares-point {e = e} h i o) w = absurd (apart (put R e h) o w)
+  many-when (shares-many v) w = refl
 
-  pub point-when : {m : Meeting} → Tells R a b m → (P : Place) → OnlyShared R a b P → Answered R m P
-  point-when (tells-none f) P o = absurd (f .nothing P (o .is-shared))
-  point-when (tells-point {e = e} h i u) P o = record { e = e; is-said = refl; above = h; there = u .no-other P (o .is-shared) }
-  point-when (tells-many w) P o = absurd (apart P o w)
+  pub point-when : {m : Meeting} → Shares R a b m → (P : Place) → OnlyShared R a b P → PointGiven R m P
+  point-when (shares-none f) P o = absurd (f .nothing P (o .is-shared))
+  point-when (shares-point {e = e} h i u) P o = record { e = e; is-said = refl; above = h; there = u .no-other P (o .is-shared) }
+  point-when (shares-many w) P o = absurd (apart P o w)

@@ -27,7 +27,7 @@ use Rattle.cut.specs.TurnAt.{turn-at}
 use Rattle.cut.specs.SideAt.{side-at}
 use Rattle.cut.specs.CircleAt.{circle-at}
 use Rattle.cut.specs.SameNumbers.{same-numbers-at}
-use Rattle.cut.specs.CrossingAt.{Tells, tells-none, tells-many, crossing-tells, point-said, none-when, many-when, point-when}
+use Rattle.cut.specs.CrossingAt.{Shares, shares-none, shares-many, crossing-shares, point-said, none-when, many-when, point-when}
 
 ends-hold : {R : ℤ} → pos endsNeed ≤ℤ R → {o : Object} → Accepted o → EndsHold R o
 unfolding firstEnd lastEnd
@@ -44,19 +44,19 @@ ends-hold {R} hR {o} a =
 
 crossing-holds : {R : ℤ} → pos crossingNeed ≤ℤ R → {a b : Object} → Accepted a → Accepted b → CrossingHolds R a b
 crossing-holds {R} hR {a} {b} s t =
-    let c = crossing-tells hR s t in
+    let c = crossing-shares hR s t in
     record {
       point-said = point-said c;
       point-when = point-when c;
-      many-exactly = (λ e. more (subst (Tells R a b) e c), many-when c);
-      none-exactly = (λ e. nothing (subst (Tells R a b) e c), none-when c);
+      many-exactly = (λ e. more (subst (Shares R a b) e c), many-when c);
+      none-exactly = (λ e. nothing (subst (Shares R a b) e c), none-when c);
     }
   where
-    more : Tells R a b many → MoreShared R a b
-    more (tells-many w) = w
+    more : Shares R a b many → MoreShared R a b
+    more (shares-many w) = w
 
-    nothing : Tells R a b none → NothingShared R a b
-    nothing (tells-none n) = n
+    nothing : Shares R a b none → NothingShared R a b
+    nothing (shares-none n) = n
 
 -- ends, order, side, crossing and equal numbers: order needs the most of R, and only turn more
 pub from-need : (R : ℤ) → pos orderNeed <ℤ R → Holds R

@@ -7,7 +7,8 @@ use lib.IntN.{ℤ, pos, _+ℤ_, _-ℤ_, _*ℤ_}
 use lib.Signed.{_≤ℤ_, _<ℤ_, leZ-yes}
 use Rattle.whole.specs.Reify.{reify, reading, solve, val-pos, val-negsuc}
 use Rattle.whole.specs.Order.{le-cert, le-nn, nn-add, nn-mul, nn-pos, pp-pos, ≤-trans}
-use Rattle.whole.specs.Bound.{Within, w-pos, w-negsuc, w-upper, w-lower}
+use Rattle.whole.specs.Within.{Within}
+use Rattle.whole.specs.Bound.{w-pos, w-negsuc, w-upper, w-lower}
 use Rattle.whole.specs.Cert.{z-eq, nn-eq, eq-cert}
 use Rattle.sheet.specs.declared.Point.{Point}
 use Rattle.sheet.specs.Figure.{_⇀_, Side, left, bottom, right, top, outX, outY, Figure, side}

@@ -16,15 +16,17 @@ use Rattle.whole.specs.Order.{le-cert, le-nn, nn-add, nn-mul, nn-pos, pp-nn, �
 use Rattle.whole.specs.Sign.{sgn}
 use Rattle.whole.specs.SignLaws.{Signs, signs, minus, nought, plus, sgn-abs, sgn-mul-self}
 use Rattle.whole.specs.Linear.{lt-one}
-use Rattle.whole.specs.Bound.{Within, w-upper, w-lower}
+use Rattle.whole.specs.Within.{Within}
+use Rattle.whole.specs.Bound.{w-upper, w-lower}
 use Rattle.whole.specs.Cert.{z-eq, z-add, nn-eq, eq-cert}
 use Rattle.sheet.specs.declared.Point.{Point}
 use Rattle.sheet.specs.Figure.{Vec, _⇀_, Side, left, bottom, right, top, outX, outY}
 use Rattle.sheet.specs.Points.{size}
 use Rattle.sheet.specs.Ends.{moment, flat, steep, farRaw, farEnd, reverse}
 use Rattle.sheet.specs.RefusalLaws.{Proper}
-use Rattle.sheet.specs.PointsLaws as points
-use Rattle.sheet.specs.PointsLaws.{Frame, divided-above}
+use Rattle.sheet.specs.PointFacts as points
+use Rattle.sheet.specs.PointFacts.{Frame}
+use Rattle.sheet.specs.PointsLaws.{divided-above}
 use Rattle.sheet.specs.EndsLaws as ends
 use Rattle.sheet.specs.EndsLaws.{Way, far-frame, Fine, far-end-fine, proper-way, reverse-way}
 use Rattle.cut.specs.Bounds.{endsNeed}

@@ -23,8 +23,8 @@ pub mod SideAt
 pub mod CircleAt
 pub mod Round
 -- crossing
-pub mod Pieces
-pub mod Says
+pub mod Stretches
+pub mod Means
 pub mod OneLine
 pub mod Skew
 pub mod SideMeets

@@ -65,7 +65,7 @@ pub data Compared (a b : Fraction) : ℤ → Type 0 where
   is-less : Less a b → Compared a b (negsuc 0)
 
 -- on which side U is of the circle about C through P, Q and S: by the distances of U and P from C, as the three turn
-pub record SideTold (C P Q S U : Place) (c : ℤ) : Type 0 where
+pub record SideByDistance (C P Q S U : Place) (c : ℤ) : Type 0 where
   pub turning-left : signOf (determinant P Q S) ≡ pos 1 → Compared (distanceSquared C U) (distanceSquared C P) c
   pub turning-right : signOf (determinant P Q S) ≡ negsuc 0 → Compared (distanceSquared C P) (distanceSquared C U) c
 

@@ -47,3 +47,10 @@ spot P = record {
 -- a given point's own numbers
 abbrev pub fixed : Vec → Spot
 fixed a = record { X = a .x; Y = a .y; W = pos 1; above = pp-pos 0 }
+
+-- a spot as a place
+abbrev pub placeOf : Spot → Place
+placeOf S = record {
+  across = record { num = S .X; den = S .W; above = S .above };
+  up = record { num = S .Y; den = S .W; above = S .above };
+}

@@ -14,9 +14,8 @@ use Rattle.whole.specs.SignLaws.{Signs, signs, minus, nought, plus, sgn-mul, sg
 use Rattle.whole.specs.Fraction.{Fraction, Equal}
 use Rattle.whole.specs.FractionLaws.{equal-sym, equal-trans, sum-equal, opposite-equal, apart, less-apart}
 use Rattle.sheet.specs.CircleLaws.{minorZ, circleZ}
-use Rattle.cut.specs.Place.{Spot}
-use Rattle.cut.specs.Ordinary.{difference, determinant, circleDeterminant, distanceSquared, Centre, signOf, Compared, is-more, as-much, is-less, SideTold}
-use Rattle.cut.specs.Same.{placeOf}
+use Rattle.cut.specs.Place.{Spot, placeOf}
+use Rattle.cut.specs.Ordinary.{difference, determinant, circleDeterminant, distanceSquared, Centre, signOf, Compared, is-more, as-much, is-less, SideByDistance}
 use Rattle.cut.specs.TurnAt.{detOf, determinant-is}
 use Rattle.cut.specs.CircleAt.{sign-equal, over, determinant-sign}
 
@@ -127,7 +126,7 @@ turned-round (is-less h) = is-more h
 -- ---- the law
 
 pub round : (C P Q S U : Spot) → Centre (placeOf C) (placeOf P) (placeOf Q) (placeOf S)
-    → SideTold (placeOf C) (placeOf P) (placeOf Q) (placeOf S) (placeOf U) (signOf (circleDeterminant (placeOf P) (placeOf Q) (placeOf S) (placeOf U)))
+    → SideByDistance (placeOf C) (placeOf P) (placeOf Q) (placeOf S) (placeOf U) (signOf (circleDeterminant (placeOf P) (placeOf Q) (placeOf S) (placeOf U)))
 round C P Q S U h =
     let d = compared (distanceSquared (placeOf C) (placeOf U)) (distanceSquared (placeOf C) (placeOf P)) in
     let e = by-turn C P Q S U h in

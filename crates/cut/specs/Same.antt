@@ -1,7 +1,7 @@
 -- One place written in two ways, and that what holds of it does not depend on the way. To cite:
 --   Same, same-sym, same-trans          two spots are one place
 --   same-place, same-spot               as `SamePlace` of the places
---   placeOf, place-spot                 a spot as a place
+--   place-spot                          a spot as a place
 --   spotAt, put-spot                    the place of a point at R over its own denominator
 --   standing, given-spot                that of a standard point is the same for every R; of a given point
 --   divided-spot                        the place stays when the common divisor goes out
@@ -22,7 +22,7 @@ use Rattle.sheet.specs.declared.Point.{Point}
 use Rattle.sheet.specs.Figure.{Vec, Side, outX, outY, Figure, segment, ray, line, side}
 use Rattle.sheet.specs.Points.{given, divisor, divided}
 use Rattle.sheet.specs.PointsLaws.{divided-back, divided-above}
-use Rattle.cut.specs.Place.{Place, SamePlace, put, Spot, spot, fixed}
+use Rattle.cut.specs.Place.{Place, SamePlace, put, Spot, spot, fixed, placeOf}
 use Rattle.cut.specs.Cut.{OnLine, along, Upto, InSquare, OfSegment, OfRay, OfLine, OnSide, On, on-segment, on-ray, on-line, on-side}
 use Rattle.cut.specs.Line.{size², upto-turn, upto-back}
 
@@ -32,13 +32,6 @@ pub record Same (P Q : Spot) : Type 0 where
 
 pub same-sym : {S T : Spot} → Same S T → Same T S
 same-sym e = record { same-x = sym (e .same-x); same-y = sym (e .same-y) }
-
--- a spot as a place
-abbrev pub placeOf : Spot → Place
-placeOf S = record {
-  across = record { num = S .X; den = S .W; above = S .above };
-  up = record { num = S .Y; den = S .W; above = S .above };
-}
 
 pub same-trans : {S T U : Spot} → Same S T → Same T U → Same S U
 same-trans {S} {T} {U} e f = record {

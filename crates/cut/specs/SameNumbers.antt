@@ -8,9 +8,10 @@ use Rattle.whole.specs.Sign.{sgn}
 use Rattle.whole.specs.SignLaws.{sgn-zero}
 use Rattle.whole.specs.Fraction.{Fraction, Equal}
 use Rattle.whole.specs.FractionLaws.{apart}
-use Rattle.whole.specs.Poly.{first}
+use Rattle.whole.specs.Choice.{orElse}
 use Rattle.sheet.specs.declared.Point.{Point}
-use Rattle.sheet.specs.PointsLaws.{APoint, point-is}
+use Rattle.sheet.specs.PointFacts.{APoint}
+use Rattle.sheet.specs.PointsLaws.{point-is}
 use Rattle.sheet.specs.SignsLaws.{order-zero}
 use Rattle.cut.specs.Bounds.{orderNeed}
 use Rattle.cut.specs.Place.{SamePlace, put}
@@ -24,4 +25,4 @@ pub same-numbers-at : {R : ℤ} → pos orderNeed <ℤ R → {p q : Point} → A
     → SamePlace (put R p h) (put R q k) → p ≡ q
 same-numbers-at hR {p} {q} a b h k e =
     order-zero p q (point-is p .1 a) (point-is q .1 b) .0
-    (sym (order-apart hR a b h k) ∙ ap₂ first (not-apart (e .same-across)) (not-apart (e .same-up)))
+    (sym (order-apart hR a b h k) ∙ ap₂ orElse (not-apart (e .same-across)) (not-apart (e .same-up)))

@@ -11,15 +11,17 @@ use Rattle.whole.specs.Order.{nn-pos, pp-pos, pp-mul, ≤-<-trans}
 use Rattle.whole.specs.Cert.{z-eq, z-add, eq-cert}
 use Rattle.whole.specs.Sign.{sgn}
 use Rattle.whole.specs.SignLaws.{sgn-mul-pos}
-use Rattle.whole.specs.Bound.{Within, w-is, w-neg, w-sub, w-mul, w-pos}
-use Rattle.whole.specs.Poly.{first}
+use Rattle.whole.specs.Within.{Within}
+use Rattle.whole.specs.Bound.{w-is, w-neg, w-sub, w-mul, w-pos}
+use Rattle.whole.specs.Choice.{orElse}
 use Rattle.whole.specs.Lead.{Small, small, lead-step}
 use Rattle.sheet.specs.declared.Point.{Point}
 use Rattle.sheet.specs.Figure.{Vec, _⇀_, Side, left, bottom, right, top, Figure, side}
 use Rattle.sheet.specs.Points.{given}
 use Rattle.sheet.specs.Ends.{moment}
 use Rattle.sheet.specs.RefusalLaws.{Proper, Drawn, draw-segment, draw-ray, draw-line, draw-side}
-use Rattle.sheet.specs.PointsLaws.{OnEdge, APoint, a-standard, a-frame, point-sizes}
+use Rattle.sheet.specs.PointFacts.{OnEdge, APoint, a-standard, a-frame}
+use Rattle.sheet.specs.PointsLaws.{point-sizes}
 use Rattle.sheet.specs.Signs.{turn, sideOfFigure}
 use Rattle.sheet.specs.EndsLaws.{Way, proper-way}
 use Rattle.sheet.specs.Expansions.{sideB, sideC, pair-side-is, left-side-is, bottom-side-is, right-side-is, top-side-is}
@@ -45,7 +47,7 @@ module _ {R : ℤ} (hR : pos sideNeed <ℤ R) (s : Point) (l : pos 0 <ℤ s .w) 
 
   -- ---- of a segment, ray or line: a standard point leaves no R, and of a frame point one n is 0
 
-  pair-leads : {p q : Vec} → Proper p q → APoint s → sgn (sideB p q s *ℤ R +ℤ sideC p q s) ≡ first (sgn (sideB p q s)) (sgn (sideC p q s))
+  pair-leads : {p q : Vec} → Proper p q → APoint s → sgn (sideB p q s *ℤ R +ℤ sideC p q s) ≡ orElse (sgn (sideB p q s)) (sgn (sideC p q s))
   pair-leads {p} {q} h (a-standard t e) =
       constant R (sideB p q s) (sideC p q s)
       (eq-cert _ (z-add (z-eq ((p ⇀ q) .x) (t .no-my)) (z-eq (negℤ ((p ⇀ q) .y)) (t .no-mx)))
@@ -76,7 +78,7 @@ module _ {R : ℤ} (hR : pos sideNeed <ℤ R) (s : Point) (l : pos 0 <ℤ s .w) 
   -- ---- of a side of the frame: its corners are 2 R apart
 
   edge-at : (p q : Vec) (b c : ℤ) → Within sideNeed c → sideValue p q ≡ (b *ℤ R +ℤ c) *ℤ (pos 2 *ℤ R)
-      → signOf (determinant (at (p .x) (p .y)) (at (q .x) (q .y)) (put R s l)) ≡ first (sgn b) (sgn c)
+      → signOf (determinant (at (p .x) (p .y)) (at (q .x) (q .y)) (put R s l)) ≡ orElse (sgn b) (sgn c)
   edge-at p q b c h e =
       whole-places p q
       ∙ ap sgn e

@@ -20,7 +20,7 @@ use Rattle.sheet.specs.Ends.{farEnd, reverse}
 use Rattle.sheet.specs.RefusalLaws.{Proper, draw-ray, draw-line}
 use Rattle.sheet.specs.Flags.{both}
 use Rattle.sheet.specs.Crossing.{Meeting, none, onSide, endOn}
-use Rattle.cut.specs.Bounds.{endsNeed, touchNeed}
+use Rattle.cut.specs.Bounds.{endsNeed, meetNeed}
 use Rattle.cut.specs.Place.{Spot, fixed}
 use Rattle.cut.specs.Cut.{OnLine, along, Upto, OnSide, On, on-side}
 use Rattle.cut.specs.Same.{Same, side-same, on-same, spotAt, of-ray, of-line, of-side}
@@ -29,11 +29,11 @@ use Rattle.cut.specs.Square.{Inner, off-side, segment-small, length-pq, 
 use Rattle.cut.specs.Farthest.{farthest-same, leads-out}
 use Rattle.cut.specs.Far.{Far, ahead, behind, inner-p}
 use Rattle.cut.specs.EndsAt.{ends-at}
-use Rattle.cut.specs.Says.{Both, Says, says-none, says-point}
+use Rattle.cut.specs.Means.{Both, Means, means-none, means-point}
 
 -- ---- one end against a side
 
-module _ {R : ℤ} (hR : pos touchNeed <ℤ R) {p d : Vec} {e : Point} (len : pos 0 <ℤ size² d) (inn : Inner R p)
+module _ {R : ℤ} (hR : pos meetNeed <ℤ R) {p d : Vec} {e : Point} (len : pos 0 <ℤ size² d) (inn : Inner R p)
     (f : Far R p d e) (n : Side) where
   abbrev E : Spot
   E = spotAt R e (f .over)
@@ -79,23 +79,23 @@ module _ {R : ℤ} (hR : pos touchNeed <ℤ R) {p d : Vec} {e : Point} (len : po
   -- the end of a figure g is asked first: it is what the side shares with g, or it is not, and m is the answer
   end-says : {g : Figure} {m : Meeting} {k : pos 0 <ℤ e .w} → On R g (spotAt R e k)
       → (OnSide R n E → (S : Spot) → OnSide R n S → On R g S → Same S E)
-      → ((OnSide R n E → ⊥) → Says R (Both (On R (side n)) (On R g)) m) → Says R (Both (On R (side n)) (On R g)) (endOn n e m)
+      → ((OnSide R n E → ⊥) → Means R (Both (On R (side n)) (On R g)) m) → Means R (Both (On R (side n)) (On R g)) (endOn n e m)
   end-says {g} on only otherwise =
-      cond-by (Says R (Both (On R (side n)) (On R g))) (onSide n e)
+      cond-by (Means R (Both (On R (side n)) (On R g))) (onSide n e)
       (λ t.
       let s = end-test .0 t in
-      says-point (f .over) (f .fine .point) (record { first = on-side s; second = on-same (record { same-x = refl; same-y = refl }) on })
+      means-point (f .over) (f .fine .point) (record { first = on-side s; second = on-same (record { same-x = refl; same-y = refl }) on })
       (λ S b. only s S (of-side (b .first)) (b .second)))
       (λ t. otherwise (λ s. true≢false (sym (end-test .1 s) ∙ t)))
 
 -- ---- the three kinds
 
-module _ {R : ℤ} (hR : pos touchNeed <ℤ R) {p q : Vec} (a : Proper p q) (n : Side) where
+module _ {R : ℤ} (hR : pos meetNeed <ℤ R) {p q : Vec} (a : Proper p q) (n : Side) where
   hL : pos endsNeed ≤ℤ R
   hL = ≤-trans (leZ-yes tt) (<-≤ hR)
 
-  pub segment-says : Says R (Both (On R (side n)) (On R (segment p q))) none
-  segment-says = says-none (λ S b. off-side (<-≤-trans (ltZ-yes tt) hL) (segment-small a (b .second)) (of-side (b .first)))
+  pub segment-says : Means R (Both (On R (side n)) (On R (segment p q))) none
+  segment-says = means-none (λ S b. off-side (<-≤-trans (ltZ-yes tt) hL) (segment-small a (b .second)) (of-side (b .first)))
 
   abbrev foreE : Spot
   foreE = spotAt R (farEnd p (p ⇀ q)) (ahead hL a .over)
@@ -103,10 +103,10 @@ module _ {R : ℤ} (hR : pos touchNeed <ℤ R) {p q : Vec} (a : Proper p q) (n :
   fore-only : {S : Spot} → OnLine p (p ⇀ q) S → Upto (p ⇀ q) (fixed p) S → OnSide R n S → Same S foreE
   fore-only = end-only hR (length-pq a) (inner-p hL a) (ahead hL a) n
 
-  pub ray-says : Says R (Both (On R (side n)) (On R (ray p q))) (endOn n (farEnd p (p ⇀ q)) none)
+  pub ray-says : Means R (Both (On R (side n)) (On R (ray p q))) (endOn n (farEnd p (p ⇀ q)) none)
   ray-says =
       end-says hR (length-pq a) (inner-p hL a) (ahead hL a) n (ends-at hL (draw-ray a) .last-on) (λ s S. at)
-      (λ f. says-none (λ S b. f (side-same (at (of-side (b .first)) (b .second)) (of-side (b .first)))))
+      (λ f. means-none (λ S b. f (side-same (at (of-side (b .first)) (b .second)) (of-side (b .first)))))
     where
       at : {S : Spot} → OnSide R n S → On R (ray p q) S → Same S foreE
       at o r = fore-only (of-ray r .of-line .on) (of-ray r .from-p) o
@@ -141,12 +141,12 @@ module _ {R : ℤ} (hR : pos touchNeed <ℤ R) {p q : Vec} (a : Proper p q) (n :
       pick (inl h) = inl (fore-only (of-line l .on) (record { upto = h }) o)
       pick (inr h) = inr (aft-only (of-line l .on) (record { upto = <-≤ h }) o)
 
-  pub line-says : Says R (Both (On R (side n)) (On R (line p q))) (endOn n (farEnd p (p ⇀ q)) (endOn n (farEnd p (reverse (p ⇀ q))) none))
+  pub line-says : Means R (Both (On R (side n)) (On R (line p q))) (endOn n (farEnd p (p ⇀ q)) (endOn n (farEnd p (reverse (p ⇀ q))) none))
   line-says =
       end-says hR (length-pq a) (inner-p hL a) (ahead hL a) n (ends-at hL (draw-line a) .last-on) (λ s S o l. at-fore s o (which S o l))
       (λ f.
       end-says hR back (inner-p hL a) (behind hL a) n (ends-at hL (draw-line a) .first-on) (λ s S o l. at-aft f o (which S o l))
-      (λ g. says-none (λ S b.
+      (λ g. means-none (λ S b.
       let o = of-side (b .first) in
       g (side-same (at-aft f o (which S o (b .second))) o))))
     where

@@ -1,5 +1,5 @@
 -- Two sides of the frame: the same one, opposite ones, or the corner between. To cite:
---   same-says, sides-says   for every R above 0
+--   same-says, sides-means   for every R above 0
 use mathlib.Core.Path.{_≡_, refl, sym, _∙_, ap, ap₂, subst}
 use mathlib.Core.List.{[], _∷_}
 use lib.IntN.{ℤ, pos, negℤ, _+ℤ_, _-ℤ_, _*ℤ_, +ℤ-comm, negℤ-negℤ}
@@ -9,7 +9,7 @@ use Rattle.whole.specs.Order.{lt-cert, nn-add, pp-add, pp-mul, pp-nn, pp-pos}
 use Rattle.whole.specs.Cert.{z-eq, z-add, nn-eq, eq-cert}
 use Rattle.sheet.specs.declared.Point.{Point}
 use Rattle.sheet.specs.Figure.{Side, left, bottom, right, top, outX, outY, side}
-use Rattle.sheet.specs.PointsLaws.{APoint}
+use Rattle.sheet.specs.PointFacts.{APoint}
 use Rattle.sheet.specs.Ends.{corner}
 use Rattle.sheet.specs.EndsLaws.{begins-fine}
 use Rattle.sheet.specs.Crossing.{none, point, many, sides}
@@ -18,12 +18,12 @@ use Rattle.cut.specs.Cut.{OnSide, On, on-side}
 use Rattle.cut.specs.Same.{Same, of-side}
 use Rattle.cut.specs.Square.{unit, Turned, turned}
 use Rattle.cut.specs.EndsAt.{begins-is, cornerSpot, first-corner, last-corner}
-use Rattle.cut.specs.Says.{Both, Says, says-none, says-point, says-many, says-map, both-swap}
+use Rattle.cut.specs.Means.{Both, Means, means-none, means-point, means-many, means-map, both-swap}
 
 module _ {R : ℤ} (hR : pos 0 <ℤ R) where
-  pub same-says : (n : Side) → Says R (Both (On R (side n)) (On R (side n))) many
+  pub same-says : (n : Side) → Means R (Both (On R (side n)) (On R (side n))) many
   same-says n =
-      says-many _ _ (twice (first-corner R (pp-nn hR) n)) (twice (last-corner R (pp-nn hR) n)) differ
+      means-many _ _ (twice (first-corner R (pp-nn hR) n)) (twice (last-corner R (pp-nn hR) n)) differ
     where
       twice : {S : Spot} → OnSide R n S → Both (On R (side n)) (On R (side n)) S
       twice s = record { first = on-side s; second = on-side s }
@@ -37,8 +37,8 @@ module _ {R : ℤ} (hR : pos 0 <ℤ R) where
           (reify (R ∷ outX n ∷ outY n ∷ []) (λ ρ v. simp (reading, v 0, v 1, v 2, val-pos ρ, val-negsuc ρ) (solve _ _ _ tt))))
           (≤ℤ-refl (pos 0))
 
-  opposite-says : (m n : Side) → outX n ≡ negℤ (outX m) → outY n ≡ negℤ (outY m) → Says R (Both (On R (side m)) (On R (side n))) none
-  opposite-says m n ex ey = says-none (λ S b.
+  opposite-says : (m n : Side) → outX n ≡ negℤ (outX m) → outY n ≡ negℤ (outY m) → Means R (Both (On R (side m)) (On R (side n))) none
+  opposite-says m n ex ey = means-none (λ S b.
       clashℤ {a = pos 0} {b = pos 0}
       (lt-cert _
       (pp-add (pp-add (pp-mul hR (S .above)) (pp-nn (pp-mul hR (S .above))))
@@ -93,32 +93,32 @@ module _ {R : ℤ} (hR : pos 0 <ℤ R) where
           (λ ρ v. simp (reading, v 0, v 1, v 2, v 3, v 4, v 5, v 6, v 7, val-pos ρ, val-negsuc ρ) (solve _ _ _ tt)));
     }
 
-    next-says : Says R (Both (On R (side m)) (On R (side n))) (point (corner (outX m +ℤ outX n) (outY m +ℤ outY n)))
+    next-says : Means R (Both (On R (side m)) (On R (side n))) (point (corner (outX m +ℤ outX n) (outY m +ℤ outY n)))
     unfolding C
     next-says =
-        says-point (pp-pos 0) C-point (record { first = on-side C-m; second = on-side C-n })
+        means-point (pp-pos 0) C-point (record { first = on-side C-m; second = on-side C-n })
         (λ S b. C-only (of-side (b .first)) (of-side (b .second)))
 
     -- the other way round
-    back-says : Says R (Both (On R (side n)) (On R (side m))) (point (corner (outX n +ℤ outX m) (outY n +ℤ outY m)))
+    back-says : Means R (Both (On R (side n)) (On R (side m))) (point (corner (outX n +ℤ outX m) (outY n +ℤ outY m)))
     back-says =
-        subst (λ (e : Point). Says R (Both (On R (side n)) (On R (side m))) (point e))
-        (ap₂ corner (+ℤ-comm (outX m) (outX n)) (+ℤ-comm (outY m) (outY n))) (says-map both-swap next-says)
+        subst (λ (e : Point). Means R (Both (On R (side n)) (On R (side m))) (point e))
+        (ap₂ corner (+ℤ-comm (outX m) (outX n)) (+ℤ-comm (outY m) (outY n))) (means-map both-swap next-says)
 
-  pub sides-says : (m n : Side) → Says R (Both (On R (side m)) (On R (side n))) (sides m n)
-  sides-says left left = same-says left
-  sides-says left bottom = next-says left bottom (turned left)
-  sides-says left right = opposite-says left right refl refl
-  sides-says left top = back-says top left (turned top)
-  sides-says bottom left = back-says left bottom (turned left)
-  sides-says bottom bottom = same-says bottom
-  sides-says bottom right = next-says bottom right (turned bottom)
-  sides-says bottom top = opposite-says bottom top refl refl
-  sides-says right left = opposite-says right left refl refl
-  sides-says right bottom = back-says bottom right (turned bottom)
-  sides-says right right = same-says right
-  sides-says right top = next-says right top (turned right)
-  sides-says top left = next-says top left (turned top)
-  sides-says top bottom = opposite-says top bottom refl refl
-  sides-says top right = back-says right top (turned right)
-  sides-says top top = same-says top
+  pub sides-means : (m n : Side) → Means R (Both (On R (side m)) (On R (side n))) (sides m n)
+  sides-means left left = same-says left
+  sides-means left bottom = next-says left bottom (turned left)
+  sides-means left right = opposite-says left right refl refl
+  sides-means left top = back-says top left (turned top)
+  sides-means bottom left = back-says left bottom (turned left)
+  sides-means bottom bottom = same-says bottom
+  sides-means bottom right = next-says bottom right (turned bottom)
+  sides-means bottom top = opposite-says bottom top refl refl
+  sides-means right left = opposite-says right left refl refl
+  sides-means right bottom = back-says bottom right (turned bottom)
+  sides-means right right = same-says right
+  sides-means right top = next-says right top (turned right)
+  sides-means top left = next-says top left (turned top)
+  sides-means top bottom = opposite-says top bottom refl refl
+  sides-means top right = back-says right top (turned right)
+  sides-means top top = same-says top

@@ -1,5 +1,5 @@
--- Two pieces of any lines: what `pieces` says of the places that they share in the square. To cite:
---   pieces-says   for every R of 64,000,000,000 or more
+-- Two stretches of any lines: what `stretches` says of the places that they share in the square. To cite:
+--   stretches-mean   for every R of 64,000,000,000 or more
 use mathlib.Core.Path.{_≡_, refl, sym, _∙_}
 use mathlib.Core.Logic.{_↔_}
 use mathlib.Core.List.{List, [], _∷_}
@@ -16,10 +16,11 @@ use Rattle.whole.specs.Tests.{cond-by, eqZ-true, eqZ-false, leZ-true, le-leZ}
 use Rattle.whole.specs.Cert.{z-eq, z-add, nn-eq, le-by, eq-by, eq-cert}
 use Rattle.sheet.specs.Figure.{Vec, _⇀_}
 use Rattle.sheet.specs.Points.{size, divided}
-use Rattle.sheet.specs.PointsLaws.{Standard, APoint, a-standard, standard-divided, divided-above, divided-one}
+use Rattle.sheet.specs.PointFacts.{Standard, APoint, a-standard}
+use Rattle.sheet.specs.PointsLaws.{standard-divided, divided-above, divided-one}
 use Rattle.sheet.specs.Ends.{moment}
 use Rattle.sheet.specs.Flags.{both}
-use Rattle.sheet.specs.Crossing.{Limit, Piece, cross, dot, meetingPoint, notBefore, notBeyond, reaches, skew, pieces}
+use Rattle.sheet.specs.Crossing.{Limit, Stretch, cross, dot, meetingPoint, notBefore, notBeyond, reaches, skew, stretches}
 use Rattle.sheet.specs.CrossingLaws.{meeting-standard}
 use Rattle.cut.specs.Bounds.{crossingNeed}
 use Rattle.cut.specs.Place.{Spot}
@@ -27,9 +28,9 @@ use Rattle.cut.specs.Cut.{OnLine, along, InSquare}
 use Rattle.cut.specs.Same.{Same, same-trans, spotAt, standing, divided-spot}
 use Rattle.cut.specs.Line.{size², online-p, online-over, par-sym}
 use Rattle.cut.specs.Square.{near}
-use Rattle.cut.specs.Pieces.{After, after-free, after-till, Before, before-free, before-till, Between, Part, of-after, of-before, between-same, part-same, Marks, marks-free, marks-till, Fit}
-use Rattle.cut.specs.Says.{Both, Says, says-none, says-point}
-use Rattle.cut.specs.OneLine.{together-says}
+use Rattle.cut.specs.Stretches.{After, after-free, after-till, Before, before-free, before-till, Between, Part, of-after, of-before, between-same, part-same, Marks, marks-free, marks-till, Sound}
+use Rattle.cut.specs.Means.{Both, Means, means-none, means-point}
+use Rattle.cut.specs.OneLine.{together-means}
 
 -- ---- a place p + (g / W) d: on the line, and within the limits just where the tests of g say so
 
@@ -86,7 +87,7 @@ module _ (d : Vec) (v g : ℤ) (M : Spot) (len : pos 0 <ℤ size² d) (here : al
         (λ ρ v. simp (reading, v 0, v 1, v 2, v 3, v 4, v 5, v 6, v 7, v 8, val-pos ρ) (solve _ _ _ tt))))),
   )
 
-reaches-test : (A : Piece) → Fit A → (g : ℤ) (M : Spot) → Reached (A .p) (A .d) g M
+reaches-test : (A : Stretch) → Sound A → (g : ℤ) (M : Spot) → Reached (A .p) (A .d) g M
     → (reaches A g (M .W) ≡ true) ↔ Between (A .d) (A .start) (A .stop) M
 reaches-test A f g M m =
     let e = along-is (A .p) (A .d) g M m in
@@ -98,14 +99,14 @@ reaches-test A f g M m =
 -- ---- not parallel: Cramer's rule
 
 -- the numerators
-abbrev meetX : Piece → Piece → ℤ
+abbrev meetX : Stretch → Stretch → ℤ
 meetX A B = moment (A .p) (A .d) *ℤ B .d .x -ℤ moment (B .p) (B .d) *ℤ A .d .x
 
-abbrev meetY : Piece → Piece → ℤ
+abbrev meetY : Stretch → Stretch → ℤ
 meetY A B = moment (A .p) (A .d) *ℤ B .d .y -ℤ moment (B .p) (B .d) *ℤ A .d .y
 
 -- with s the sign of the determinant, and w its size
-module _ (A B : Piece) (s w : ℤ) (e : s *ℤ cross (A .d) (B .d) ≡ w) (hw : pos 0 <ℤ w) where
+module _ (A B : Stretch) (s w : ℤ) (e : s *ℤ cross (A .d) (B .d) ≡ w) (hw : pos 0 <ℤ w) where
   meet : Spot
   meet = record { X = s *ℤ meetX A B; Y = s *ℤ meetY A B; W = w; above = hw }
 
@@ -140,7 +141,7 @@ module _ (A B : Piece) (s w : ℤ) (e : s *ℤ cross (A .d) (B .d) ≡ w) (hw : 
         (λ ρ v. simp (reading, v 0, v 1, v 2, v 3, v 4, v 5, v 6, v 7, v 8, v 9, v 10, v 11, v 12) (solve _ _ _ tt)));
   }
 
-module _ {R : ℤ} (hR : pos crossingNeed ≤ℤ R) (A B : Piece) (fA : Fit A) (fB : Fit B) (n : cross (A .d) (B .d) ≡ pos 0 → ⊥) where
+module _ {R : ℤ} (hR : pos crossingNeed ≤ℤ R) (A B : Stretch) (fA : Sound A) (fB : Sound B) (n : cross (A .d) (B .d) ≡ pos 0 → ⊥) where
   abbrev D : ℤ
   D = cross (A .d) (B .d)
 
@@ -195,23 +196,23 @@ module _ {R : ℤ} (hR : pos crossingNeed ≤ℤ R) (A B : Piece) (fA : Fit A) (
       let g = reaches-test B fB hB M on-B in
       ((λ t. let c = b .0 t in (f .0 (c .0), g .0 (c .1))), (λ c. b .1 (f .1 (c .0), g .1 (c .1))))
 
-  skew-says : Says R (Both (Part R A) (Part R B)) (skew A B)
+  skew-means : Means R (Both (Part R A) (Part R B)) (skew A B)
   unfolding test
-  skew-says =
-      cond-by (Says R (Both (Part R A) (Part R B))) test
+  skew-means =
+      cond-by (Means R (Both (Part R A) (Part R B))) test
       (λ t. let c = test-is .0 t in
-      says-point (divided-above (meetingPoint A B) apart) meeting-point
+      means-point (divided-above (meetingPoint A B) apart) meeting-point
       (record {
         first = part-same M-at (record { on = reached-on (A .p) (A .d) _ M on-A; between = c .0; in-square = M-in });
         second = part-same M-at (record { on = reached-on (B .p) (B .d) _ M on-B; between = c .1; in-square = M-in });
       })
       (λ S s. same-trans (M-only S s) M-at))
-      (λ f. says-none (λ S s.
+      (λ f. means-none (λ S s.
       true≢false (sym (test-is .1 (between-same (M-only S s) (s .first .between), between-same (M-only S s) (s .second .between))) ∙ f)))
 
 -- ---- parallel, and not on one line
 
-on-one : (A B : Piece) → Fit B → A .d .x *ℤ B .d .y ≡ A .d .y *ℤ B .d .x → (S : Spot) → OnLine (A .p) (A .d) S → OnLine (B .p) (B .d) S
+on-one : (A B : Stretch) → Sound B → A .d .x *ℤ B .d .y ≡ A .d .y *ℤ B .d .x → (S : Spot) → OnLine (A .p) (A .d) S → OnLine (B .p) (B .d) S
     → cross (A .d) (A .p ⇀ B .p) ≡ pos 0
 on-one A B fB par S f g =
     let k = online-over (B .d) (A .d) (par-sym (A .d) (B .d) par) (fB .len) (online-p (B .p) (B .d)) g in
@@ -221,18 +222,18 @@ on-one A B fB par S f g =
 
 -- ---- all
 
-pub pieces-says : {R : ℤ} → pos crossingNeed ≤ℤ R → (A B : Piece) → Fit A → Fit B → Says R (Both (Part R A) (Part R B)) (pieces A B)
-unfolding pieces
-pieces-says {R} hR A B fA fB =
-    cond-by (Says R (Both (Part R A) (Part R B))) (eqZ (cross (A .d) (B .d)) (pos 0))
+pub stretches-mean : {R : ℤ} → pos crossingNeed ≤ℤ R → (A B : Stretch) → Sound A → Sound B → Means R (Both (Part R A) (Part R B)) (stretches A B)
+unfolding stretches
+stretches-mean {R} hR A B fA fB =
+    cond-by (Means R (Both (Part R A) (Part R B))) (eqZ (cross (A .d) (B .d)) (pos 0))
     (λ t. let par = eq-of-sub (A .d .x *ℤ B .d .y) (A .d .y *ℤ B .d .x) (eqZ-true t) in
-    cond-by (Says R (Both (Part R A) (Part R B))) (eqZ (cross (A .d) (A .p ⇀ B .p)) (pos 0))
+    cond-by (Means R (Both (Part R A) (Part R B))) (eqZ (cross (A .d) (A .p ⇀ B .p)) (pos 0))
     (λ u. let off : cross (A .d) (A .p ⇀ B .p) ≡ pos 0 = eqZ-true u in
-    together-says (≤-trans (leZ-yes tt) hR) A B fA fB par (record {
+    together-means (≤-trans (leZ-yes tt) hR) A B fA fB par (record {
       online =
           eq-cert _ off
           (reify (A .d .x ∷ A .d .y ∷ A .p .x ∷ A .p .y ∷ B .p .x ∷ B .p .y ∷ [])
           (λ ρ v. simp (reading, v 0, v 1, v 2, v 3, v 4, v 5, val-pos ρ) (solve _ _ _ tt)));
     }))
-    (λ u. says-none (λ S s. eqZ-false u (on-one A B fB par S (s .first .on) (s .second .on)))))
-    (λ t. skew-says hR A B fA fB (eqZ-false t))
+    (λ u. means-none (λ S s. eqZ-false u (on-one A B fB par S (s .first .on) (s .second .on)))))
+    (λ t. skew-means hR A B fA fB (eqZ-false t))

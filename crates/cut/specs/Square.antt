@@ -15,11 +15,12 @@ use Rattle.whole.specs.Reify.{reify, reading, solve, val-pos, val-negsuc}
 use Rattle.whole.specs.Order.{le-cert, lt-cert, le-nn, lt-pp, nn-add, nn-mul, nn-pos, nn-sq, pp-add, pp-mul, pp-nn, ≤-trans, ≤-<-trans}
 use Rattle.whole.specs.SignLaws.{Signs, signs, minus, nought, plus, neg-pp}
 use Rattle.whole.specs.Linear.{lt-one}
-use Rattle.whole.specs.Bound.{Within, w-pos, w-negsuc, w-lit, w-upper, w-lower}
+use Rattle.whole.specs.Within.{Within}
+use Rattle.whole.specs.Bound.{w-pos, w-negsuc, w-lit, w-upper, w-lower}
 use Rattle.whole.specs.Cert.{nn-eq, le-by}
 use Rattle.sheet.specs.Figure.{Vec, _⇀_, Side, left, bottom, right, top, outX, outY, segment}
 use Rattle.sheet.specs.Ends.{nextSide}
-use Rattle.sheet.specs.RefusalLaws.{Small, Proper}
+use Rattle.sheet.specs.RefusalLaws.{WithinBoth, Proper}
 use Rattle.sheet.specs.EndsLaws.{proper-way}
 use Rattle.cut.specs.Place.{Spot, fixed}
 use Rattle.cut.specs.Cut.{OnLine, Upto, out, InSquare, OfSegment, OnSide, On, on-segment}
@@ -81,7 +82,7 @@ off-side {c} {R} {S} {n} h i o =
 pub record Inner (R : ℤ) (p : Vec) : Type 0 where
   pub inner : (n : Side) → out n (fixed p) <ℤ R
 
-pub inner-small : {R : ℤ} {p : Vec} → Small 2000 p → pos 2000 <ℤ R → Inner R p
+pub inner-small : {R : ℤ} {p : Vec} → WithinBoth 2000 p → pos 2000 <ℤ R → Inner R p
 inner-small {R} {p} s h = record {
   inner = λ n. ≤-<-trans (near {R = pos 2000} {S = fixed p} (s .in-x) (s .in-y) (≤ℤ-refl (pos 2000)) .inside n) h;
 }

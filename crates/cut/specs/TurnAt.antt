@@ -15,13 +15,14 @@ use Rattle.whole.specs.Lead.{Below, lead}
 use Rattle.whole.specs.PolyBound.{Sizes, empty, _also_, s-sum, s-difference, s-product, sizes-below}
 use Rattle.sheet.specs.declared.Point.{Point}
 use Rattle.sheet.specs.Points.{X, Y, W}
-use Rattle.sheet.specs.PointsLaws.{Narrow, APoint, point-sizes}
+use Rattle.sheet.specs.PointFacts.{Narrow, APoint}
+use Rattle.sheet.specs.PointsLaws.{point-sizes}
 use Rattle.sheet.specs.Signs.{turnPoly, turn}
 use Rattle.sheet.specs.Expansions.{det}
 use Rattle.cut.specs.Bounds.{turnNeed}
-use Rattle.cut.specs.Place.{put, Spot}
+use Rattle.cut.specs.Place.{put, Spot, placeOf}
 use Rattle.cut.specs.Ordinary.{determinant, signOf}
-use Rattle.cut.specs.Same.{placeOf, spotAt}
+use Rattle.cut.specs.Same.{spotAt}
 
 -- ---- the determinant of places is `det`, times what is above 0
 

@@ -1,7 +1,7 @@
 -- How small a frame may be: accepted objects and points, what our answer to them is, and an R at which the cut pieces say something else. Of
 -- side and order this R is the need of `Bounds` itself: above it the law holds. `demand/specs/WorkedBounds` has it of the code. To cite:
 --   ends-..       at 3,999,999 an end is outside of the square
---   touch-..      at 4,000,000 it is in a corner, and on a side more than it should
+--   meet-..      at 4,000,000 it is in a corner, and on a side more than it should
 --   crossing-..   at 63,968,005,999 the point that two lines share is outside of the square
 --   side-..       at 64,000,000,000 a point is on the line of a side, and not left of it
 --   order-..      at 256,000,008,000,000 two points have one x, and the second is lower
@@ -15,14 +15,14 @@ use Rattle.whole.specs.Sign.{sgn}
 use Rattle.whole.specs.Divisor.{steps, gcd, gcdOf}
 use Rattle.sheet.specs.declared.Object.{Object}
 use Rattle.sheet.specs.declared.Point.{Point}
-use Rattle.sheet.specs.Figure.{Vec, Side, left, bottom, right, top, sideOf, figure}
+use Rattle.sheet.specs.Figure.{Vec, Side, left, bottom, right, top, sideOf, figure, figureOf}
 use Rattle.sheet.specs.Figure as figure
 use Rattle.sheet.specs.Refusal.{pairRefusal, sideRefusal, objectRefusal}
 use Rattle.sheet.specs.Points.{divided, standard, narrow, frame, isPoint, pointRefusal}
 use Rattle.sheet.specs.Ends.{farRaw, farEnd, lastEnd}
 use Rattle.sheet.specs.Signs.{order, turnPoly, turn, sideSign, orderRefusal, turnRefusal, sideSignRefusal}
 use Rattle.sheet.specs.Circle.{circlePoly, sideOfCircle, isGiven, givenRefusal, circleRefusal}
-use Rattle.sheet.specs.Crossing.{pieces, withSide, withPiece, meeting, crossingOf, crossingRefusal}
+use Rattle.sheet.specs.Crossing.{stretches, withSide, withStretch, meeting, crossingOf, crossingRefusal}
 use Rattle.sheet.specs.Crossing as crossing
 use Rattle.sheet.specs.Cases.{minus, line, side, point}
 use Rattle.cut.specs.Bounds.{sideNeed, orderNeed}
@@ -47,44 +47,44 @@ unfolding pairRefusal objectRefusal
 ends-accepted = refl
 
 pub ends-ours : lastEnd steep ≡ point (pos 2000) (pos 0) (pos 1999) (pos 4000000) (pos 2000)
-unfolding sgn steps gcd gcdOf divided figure farRaw farEnd lastEnd
+unfolding sgn steps gcd gcdOf divided figureOf farRaw farEnd lastEnd
 ends-ours = refl
 
 pub ends-outside : (h : pos 0 <ℤ lastEnd steep .w) → Lies R-ends steep (put R-ends (lastEnd steep) h) → ⊥
-unfolding sgn steps gcd gcdOf divided figure farRaw farEnd lastEnd
+unfolding sgn steps gcd gcdOf divided figureOf farRaw farEnd lastEnd
 ends-outside h l = within (l .lies) .inside top .le
 
 -- ---- an end against a side: at this R the same line ends in the corner, and so shares it with the top side too
 
-abbrev pub R-touch : ℤ
-R-touch = pos 4000000
+abbrev pub R-meet : ℤ
+R-meet = pos 4000000
 
 abbrev pub top-side : Object
 top-side = side (pos 4)
 
 abbrev pub corner : Place
-corner = at R-touch R-touch
+corner = at R-meet R-meet
 
-pub touch-accepted : crossingRefusal steep top-side ≡ pos 0
+pub meet-accepted : crossingRefusal steep top-side ≡ pos 0
 unfolding pairRefusal sideRefusal objectRefusal crossingRefusal
-touch-accepted = refl
+meet-accepted = refl
 
-pub touch-ours : crossingOf steep top-side ≡ crossing.none
-unfolding sgn steps gcd gcdOf divided sideOf figure farRaw farEnd pieces withSide withPiece meeting crossingOf
-touch-ours = refl
+pub meet-ours : crossingOf steep top-side ≡ crossing.none
+unfolding sgn steps gcd gcdOf divided sideOf figureOf farRaw farEnd stretches withSide withStretch meeting crossingOf
+meet-ours = refl
 
-corner-in : InSquare R-touch (spot corner)
+corner-in : InSquare R-meet (spot corner)
 corner-in = record { inside = go }
   where
-    go : (n : Side) → out n (spot corner) ≤ℤ (R-touch *ℤ spot corner .W)
+    go : (n : Side) → out n (spot corner) ≤ℤ (R-meet *ℤ spot corner .W)
     go left = leZ-yes tt
     go bottom = leZ-yes tt
     go right = leZ-yes tt
     go top = leZ-yes tt
 
-pub touch-ordinary : Shared R-touch steep top-side corner
-unfolding sideOf figure
-touch-ordinary = record {
+pub meet-ordinary : Shared R-meet steep top-side corner
+unfolding sideOf figureOf
+meet-ordinary = record {
   on-first = record { lies = on-line (record { on = record { online = refl }; cut = corner-in }) };
   on-second = record { lies = on-side (record { in-square = corner-in; edge = refl }) };
 }
@@ -108,11 +108,11 @@ unfolding pairRefusal objectRefusal crossingRefusal
 crossing-accepted = refl
 
 pub crossing-ours : crossingOf upper lower ≡ crossing.point shared
-unfolding sgn steps gcd gcdOf divided figure pieces meeting crossingOf
+unfolding sgn steps gcd gcdOf divided figureOf stretches meeting crossingOf
 crossing-ours = refl
 
 pub crossing-outside : (h : pos 0 <ℤ shared .w) → Lies R-crossing upper (put R-crossing shared h) → ⊥
-unfolding figure
+unfolding figureOf
 crossing-outside h l = within (l .lies) .inside left .le
 
 -- ---- side: the farthest point to the left, and the left side
@@ -131,12 +131,12 @@ unfolding steps gcd gcdOf standard narrow frame isPoint pointRefusal sideRefusal
 side-accepted = refl
 
 pub side-ours : sideSign left-side farthest ≡ pos 1
-unfolding sgn sideOf figure turnPoly turn sideSign
+unfolding sgn sideOf figureOf turnPoly turn sideSign
 side-ours = refl
 
 pub side-ordinary : (l : pos 0 <ℤ farthest .w)
     → signOf (determinant (tail R-side (figure left-side)) (tip R-side (figure left-side)) (put R-side farthest l)) ≡ pos 0
-unfolding sgn sideOf figure
+unfolding sgn sideOf figureOf
 side-ordinary l = refl
 
 -- ---- order: the x of the first is 64,000,000,000 for every R, that of the second, on the bottom side, (R - 8,000,000)/4,000

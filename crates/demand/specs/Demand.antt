@@ -27,13 +27,13 @@ use Rattle.sheet.specs.Signs.{order, turn, sideSign, orderRefusal, turnRefusal,
 use Rattle.sheet.specs.Circle.{sideOfCircle, circleRefusal}
 use Rattle.sheet.specs.CircleLaws.{circle-points}
 use Rattle.sheet.specs.Answers.{answer, endsSay, signedSays, meetingNumbers, crossingSays}
-use Rattle.sheet.specs.AnswersLaws.{by-answer, ends-one, signed-one, crossing-one}
+use Rattle.sheet.specs.AnswersLaws.{by-answer, ends-one, signed-one, crossing-one, crossingBy, crossing-says, meetingBy, crossing-met}
 use Rattle.sheet.specs.AcceptsLaws.{order-taken, turn-taken, side-taken, cross-taken, taken-cross}
 use Rattle.sheet.specs.Crossing.{Meeting, none, point, many, crossingOf, crossingRefusal}
 use Rattle.whole.specs.Order.{≤-trans, <-≤-trans, le-or-lt}
-use Rattle.cut.specs.Place.{put, Spot}
-use Rattle.cut.specs.Ordinary.{Centre, SideTold}
-use Rattle.cut.specs.Same.{placeOf, spotAt}
+use Rattle.cut.specs.Place.{put, Spot, placeOf}
+use Rattle.cut.specs.Ordinary.{Centre, SideByDistance}
+use Rattle.cut.specs.Same.{spotAt}
 use Rattle.cut.specs.Round.{round}
 use Rattle.cut.specs.Claims.{EndsHold, CrossingHolds, Holds, DemandAt}
 use Rattle.cut.specs.Bounds.{orderNeed}
@@ -42,31 +42,10 @@ use Rattle.kernel.proofs.circle.side_of_circle.Reads as side-of-circle
 use Rattle.demand.specs.Said.{PieceEnds, EndsSaid, ends-refused, ends-given, OrderSaid, order-refused, order-given, TurnSaid, turn-refused, turn-given, CircleSaid, circle-refused, circle-given, SideSaid, side-refused, side-given, Exactly, CrossSaid, cross-refused, cross-given, CodeHolds, CodeAt}
 use Rattle.demand.specs.WorkedBounds.{orders-fail}
 
--- ---- a crossing as it is answered, and back
+-- ---- a crossing as it is answered
 
-abbrev told : Meeting → Crossing
-told none = crossing.Nothing
-told (point p) = crossing.Once p
-told many = crossing.Many
-
-told-says : (m : Meeting) → crossingSays (told m) ≡ pos 0 ∷ meetingNumbers m
-told-says none = refl
-told-says (point p) = refl
-told-says many = refl
-
-abbrev meant : Crossing → Meeting
-meant crossing.Nothing = none
-meant (crossing.Once p) = point p
-meant crossing.Many = many
-meant (crossing.Refused n) = none
-
-told-meant : (m : Meeting) → meant (told m) ≡ m
-told-meant none = refl
-told-meant (point p) = refl
-told-meant many = refl
-
-told-one : {m n : Meeting} → told m ≡ told n → m ≡ n
-told-one {m} {n} e = sym (told-meant m) ∙ ap meant e ∙ told-meant n
+same-crossing : {m n : Meeting} → crossingBy m ≡ crossingBy n → m ≡ n
+same-crossing {m} {n} e = sym (crossing-met m) ∙ ap meetingBy e ∙ crossing-met n
 
 abbrev Given : Crossing → Type 0
 Given crossing.Nothing = Unit {0}
@@ -74,10 +53,10 @@ Given (crossing.Once p) = Unit {0}
 Given crossing.Many = Unit {0}
 Given (crossing.Refused n) = ⊥
 
-told-given : (m : Meeting) → Given (told m)
-told-given none = tt
-told-given (point p) = tt
-told-given many = tt
+crossing-given : (m : Meeting) → Given (crossingBy m)
+crossing-given none = tt
+crossing-given (point p) = tt
+crossing-given many = tt
 
 -- ---- each call
 
@@ -117,20 +96,20 @@ module _ (R : ℤ) (d : Holds R) where
       side-given z l (sym (d .sides o (i .0) t (i .1) l)))
       (side-refused refl)
 
-  exactly : {a b : Object} → CrossingHolds R a b → Exactly R a b (told (crossingOf a b))
+  exactly : {a b : Object} → CrossingHolds R a b → Exactly R a b (crossingBy (crossingOf a b))
   exactly {a} {b} h = record {
-    not-refused = λ n e. subst Given e (told-given (crossingOf a b));
-    point-said = λ e q. h .point-said e (told-one q);
+    not-refused = λ n e. subst Given e (crossing-given (crossingOf a b));
+    point-said = λ e q. h .point-said e (same-crossing q);
     point-when = λ P o.
-        let w = h .point-when P o in record { e = w .e; is-said = ap told (w .is-said); above = w .above; there = w .there };
-    many-exactly = (λ q. h .many-exactly .0 (told-one q), λ w. ap told (h .many-exactly .1 w));
-    none-exactly = (λ q. h .none-exactly .0 (told-one q), λ w. ap told (h .none-exactly .1 w));
+        let w = h .point-when P o in record { e = w .e; is-said = ap crossingBy (w .is-said); above = w .above; there = w .there };
+    many-exactly = (λ q. h .many-exactly .0 (same-crossing q), λ w. ap crossingBy (h .many-exactly .1 w));
+    none-exactly = (λ q. h .none-exactly .0 (same-crossing q), λ w. ap crossingBy (h .none-exactly .1 w));
   }
 
   cross-said :
       (a b : Object) (r : Crossing) → crossingSays r ≡ answer (crossingRefusal a b) (meetingNumbers (crossingOf a b)) → CrossSaid R a b r
   cross-said a b =
-      by-answer crossing-one (CrossSaid R a b) (told (crossingOf a b)) (crossing.Refused (crossingRefusal a b)) (told-says (crossingOf a b)) refl
+      by-answer crossing-one (CrossSaid R a b) (crossingBy (crossingOf a b)) (crossing.Refused (crossingRefusal a b)) (crossing-says (crossingOf a b)) refl
       (λ z. let t = cross-taken a b z in cross-given z (exactly (d .crossings a b (t .0) (t .1))))
       (cross-refused refl)
 
@@ -195,12 +174,12 @@ demand R hR = record {
 pub circle-means : (R : ℤ) → pos 2000000000000000000 ≤ℤ R → (κs : Lfts 0) (p q s u : Point) (c : ℤ)
     → side-of-circle.Post κs (p, (q, (s, (u, tt)))) (signed.Sign c) (p, (q, (s, (u, tt))))
     → (h : pos 0 <ℤ p .w) (k : pos 0 <ℤ q .w) (l : pos 0 <ℤ s .w) (j : pos 0 <ℤ u .w)
-    → (C : Spot) → Centre (placeOf C) (put R p h) (put R q k) (put R s l) → SideTold (placeOf C) (put R p h) (put R q k) (put R s l) (put R u j) c
+    → (C : Spot) → Centre (placeOf C) (put R p h) (put R q k) (put R s l) → SideByDistance (placeOf C) (put R p h) (put R q k) (put R s l) (put R u j) c
 circle-means R hR κs p q s u c a h k l j C m = go (demand R hR .circles κs p q s u (signed.Sign c) a)
   where
-    go : CircleSaid R p q s u (signed.Sign c) → SideTold (placeOf C) (put R p h) (put R q k) (put R s l) (put R u j) c
+    go : CircleSaid R p q s u (signed.Sign c) → SideByDistance (placeOf C) (put R p h) (put R q k) (put R s l) (put R u j) c
     go (circle-given z h′ k′ l′ j′ e) =
-        subst (SideTold (placeOf C) (put R p h) (put R q k) (put R s l) (put R u j)) (sym e)
+        subst (SideByDistance (placeOf C) (put R p h) (put R q k) (put R s l) (put R u j)) (sym e)
         (round C (spotAt R p h) (spotAt R q k) (spotAt R s l) (spotAt R u j) m)
 
 -- ---- the bounds themselves are taken

@@ -1,3 +1,6 @@
+-- what is to be believed
 pub mod Said
+-- worked on them
 pub mod WorkedBounds
+-- laws
 pub mod Demand

@@ -1,5 +1,5 @@
 -- The code at the R of `cut/specs/WorkedBounds`: its answers to those objects and points are not what the cut pieces say there. To cite:
---   ends-fail 3,999,999, touches-fail 4,000,000, crossings-fail 63,968,005,999, sides-fail 64,000,000,000, orders-fail 256,000,008,000,000
+--   ends-fail 3,999,999, meets-fail 4,000,000, crossings-fail 63,968,005,999, sides-fail 64,000,000,000, orders-fail 256,000,008,000,000
 --   turns-fail 1,023,871,872,008,004,000, circles-fail 31,960,016,000
 --   first-twice, last-twice   one end of a segment in the place of both is no answer, at R of 1,000,000,000,000,000
 -- So what `Said` asks of each call does not hold of every answer.
@@ -12,7 +12,7 @@ use Rattle.sheet.specs.declared.Ends.the-variants as ends
 use Rattle.sheet.specs.declared.Signed.the-variants as signed
 use Rattle.sheet.specs.declared.Crossing.{Crossing}
 use Rattle.sheet.specs.declared.Crossing.the-variants as crossing
-use Rattle.sheet.specs.Figure.{figure}
+use Rattle.sheet.specs.Figure.{figureOf}
 use Rattle.sheet.specs.Ends.{firstEnd, lastEnd}
 use Rattle.sheet.specs.Crossing.{Meeting, crossingOf, crossingRefusal}
 use Rattle.sheet.specs.Answers.{answer, signedSays, meetingNumbers, crossingSays}
@@ -21,7 +21,7 @@ use Rattle.sheet.specs.AcceptsLaws.{cross-taken}
 use Rattle.sheet.specs.Cases.{minus, segment, at}
 use Rattle.cut.specs.Demand.{at-the-small-bound}
 use Rattle.cut.specs.WorkedBounds as worked
-use Rattle.cut.specs.WorkedBounds.{R-ends, steep, R-touch, top-side, corner, R-crossing, upper, lower, shared, R-side, left-side, farthest, R-order, still, below, R-turn, from, to, beside, R-circle, middle, lowest, highest, straight-down}
+use Rattle.cut.specs.WorkedBounds.{R-ends, steep, R-meet, top-side, corner, R-crossing, upper, lower, shared, R-side, left-side, farthest, R-order, still, below, R-turn, from, to, beside, R-circle, middle, lowest, highest, straight-down}
 use Rattle.demand.specs.Said.{EndsSaid, ends-given, OrderSaid, order-given, TurnSaid, turn-given, CircleSaid, circle-given, SideSaid, side-given, Exactly, CodeHolds, CodeAt}
 
 -- ---- an answer to what is accepted
@@ -52,16 +52,16 @@ abbrev R-small : ℤ
 R-small = pos 1000000000000000
 
 pub first-twice : EndsSaid R-small short (ends.Both (at (pos 0) (pos 0)) (at (pos 0) (pos 0))) → ⊥
-unfolding figure lastEnd
+unfolding figureOf lastEnd
 first-twice (ends-given z e) = e .not-beyond _ (at-the-small-bound .ends short (record { accepted = z }) .last-on) .upto .le
 
 pub last-twice : EndsSaid R-small short (ends.Both (at (pos 2) (pos 0)) (at (pos 2) (pos 0))) → ⊥
-unfolding figure firstEnd
+unfolding figureOf firstEnd
 last-twice (ends-given z e) = e .not-before _ (at-the-small-bound .ends short (record { accepted = z }) .first-on) .upto .le
 
-pub touches-fail : CodeHolds R-touch → ⊥
-touches-fail c =
-    crossed c steep top-side _ crossing.Nothing refl worked.touch-accepted worked.touch-ours .none-exactly .0 refl .nothing corner worked.touch-ordinary
+pub meets-fail : CodeHolds R-meet → ⊥
+meets-fail c =
+    crossed c steep top-side _ crossing.Nothing refl worked.meet-accepted worked.meet-ours .none-exactly .0 refl .nothing corner worked.meet-ordinary
 
 pub crossings-fail : CodeHolds R-crossing → ⊥
 crossings-fail c =

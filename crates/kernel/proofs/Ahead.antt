@@ -21,14 +21,14 @@ use Rattle.whole.specs.Flat.{All, none, _also_, mach, raw, need, gives, raw-is,
 use Rattle.whole.specs.Flag.{eqZ}
 use Rattle.whole.specs.Tests.{out, eq-flag}
 use Rattle.sheet.specs.declared.Point.{Point}
-use Rattle.sheet.specs.Figure.{Vec, _⇀_}
+use Rattle.sheet.specs.Figure.{Vec, vec, _⇀_}
 use Rattle.sheet.specs.Points.{size}
-use Rattle.sheet.specs.RefusalLaws.{Small, Proper}
+use Rattle.sheet.specs.RefusalLaws.{WithinBoth, Proper}
 use Rattle.sheet.specs.Ends.{moment, flat, steep, farRaw, farEnd, reverse}
 use Rattle.sheet.specs.Crossing.{Meeting, point}
 use Rattle.kernel.specs.Bounds.{Direction, Ahead, Out}
 use Rattle.kernel.specs.Forms.{isFlat, flat-form, steep-form}
-use Rattle.kernel.specs.Pieces.{at, onBy, endBy}
+use Rattle.kernel.specs.Stretches.{onBy, endBy}
 use Rattle.kernel.proofs.Eight.{dxE, dyE}
 
 -- dx py - dy px
@@ -43,17 +43,17 @@ module _ {px py dx dy : ℤ} (h : Ahead px py dx dy) where
   direction = record { bdx = held four (var 2) tt; bdy = held four (var 3) tt; bk = held four kE tt }
 
   pub by-direction : {A : Type 0} (f : ℤ → ℤ → ℤ → A)
-      → f (out dx) (out dy) (mach (px ∷ py ∷ dx ∷ dy ∷ []) kE) ≡ f dx dy (moment (at px py) (at dx dy))
+      → f (out dx) (out dy) (mach (px ∷ py ∷ dx ∷ dy ∷ []) kE) ≡ f dx dy (moment (vec px py) (vec dx dy))
   by-direction f = λ i. f (back (h .bdx) tt i) (back (h .bdy) tt i) (gives four kE tt i)
 
   -- what the code's test says
   pub is-flat : {t : Bool} → t ≡ isFlat (out dx) (out dy) (mach (px ∷ py ∷ dx ∷ dy ∷ []) kE) → t ≡ true
-      → let k = moment (at px py) (at dx dy) in (farRaw dx dy k ≡ flat dx dy k) × (pos 0 <ℤ size dx)
-  is-flat e y = flat-form dx dy (moment (at px py) (at dx dy)) (h .moves) (sym (e ∙ by-direction isFlat) ∙ y)
+      → let k = moment (vec px py) (vec dx dy) in (farRaw dx dy k ≡ flat dx dy k) × (pos 0 <ℤ size dx)
+  is-flat e y = flat-form dx dy (moment (vec px py) (vec dx dy)) (h .moves) (sym (e ∙ by-direction isFlat) ∙ y)
 
   pub is-steep : {t : Bool} → t ≡ isFlat (out dx) (out dy) (mach (px ∷ py ∷ dx ∷ dy ∷ []) kE) → t ≡ false
-      → let k = moment (at px py) (at dx dy) in (farRaw dx dy k ≡ steep dx dy k) × (pos 0 <ℤ size dy)
-  is-steep e n = steep-form dx dy (moment (at px py) (at dx dy)) (h .moves) (sym (e ∙ by-direction isFlat) ∙ n)
+      → let k = moment (vec px py) (vec dx dy) in (farRaw dx dy k ≡ steep dx dy k) × (pos 0 <ℤ size dy)
+  is-steep e n = steep-form dx dy (moment (vec px py) (vec dx dy)) (h .moves) (sym (e ∙ by-direction isFlat) ∙ n)
 
   pub ahead-out : Ahead (out px) (out py) (out dx) (out dy)
   ahead-out = record {
@@ -64,8 +64,8 @@ module _ {px py dx dy : ℤ} (h : Ahead px py dx dy) where
     moves = λ e f. h .moves (sym (back (h .bdx) tt) ∙ e) (sym (back (h .bdy) tt) ∙ f);
   }
 
-  pub far-out : farEnd (at (out px) (out py)) (at (out dx) (out dy)) ≡ farEnd (at px py) (at dx dy)
-  far-out = λ i. farEnd (at (back (h .bpx) tt i) (back (h .bpy) tt i)) (at (back (h .bdx) tt i) (back (h .bdy) tt i))
+  pub far-out : farEnd (vec (out px) (out py)) (vec (out dx) (out dy)) ≡ farEnd (vec px py) (vec dx dy)
+  far-out = λ i. farEnd (vec (back (h .bpx) tt i) (back (h .bpy) tt i)) (vec (back (h .bdx) tt i) (back (h .bdy) tt i))
 
 pub outward : {ox oy : ℤ} → Out ox oy → Out (out ox) (out oy)
 outward o = record { box = within-out (o .box) tt; boy = within-out (o .boy) tt }
@@ -84,16 +84,16 @@ module _ {ox oy dx dy k : ℤ} (h : Out ox oy × Direction dx dy k) where
 
 -- the code's test, and what it says
 module _ {ox oy px py dx dy : ℤ} {t : Bool} (o : Out ox oy) (h : Ahead px py dx dy)
-    (e : t ≡ onBy (out ox) (out oy) (farEnd (at (out px) (out py)) (at (out dx) (out dy)))) where
-  on-flag : onBy ox oy (farEnd (at px py) (at dx dy)) ≡ t
+    (e : t ≡ onBy (out ox) (out oy) (farEnd (vec (out px) (out py)) (vec (out dx) (out dy)))) where
+  on-flag : onBy ox oy (farEnd (vec px py) (vec dx dy)) ≡ t
   on-flag = sym (e ∙ (λ i. onBy (back (o .box) tt i) (back (o .boy) tt i) (far-out h i)))
 
-  pub on-end : {q : Point} (m : Meeting) → q ≡ farEnd (at (out px) (out py)) (at (out dx) (out dy)) → t ≡ true
-      → point q ≡ endBy ox oy (farEnd (at px py) (at dx dy)) m
-  on-end m f y = ap point (f ∙ far-out h) ∙ sym (ap (λ (t : Bool). cond t (point (farEnd (at px py) (at dx dy))) m) (on-flag ∙ y))
+  pub on-end : {q : Point} (m : Meeting) → q ≡ farEnd (vec (out px) (out py)) (vec (out dx) (out dy)) → t ≡ true
+      → point q ≡ endBy ox oy (farEnd (vec px py) (vec dx dy)) m
+  on-end m f y = ap point (f ∙ far-out h) ∙ sym (ap (λ (t : Bool). cond t (point (farEnd (vec px py) (vec dx dy))) m) (on-flag ∙ y))
 
-  pub off-end : (m : Meeting) → t ≡ false → m ≡ endBy ox oy (farEnd (at px py) (at dx dy)) m
-  off-end m n = sym (ap (λ (t : Bool). cond t (point (farEnd (at px py) (at dx dy))) m) (on-flag ∙ n))
+  pub off-end : (m : Meeting) → t ≡ false → m ≡ endBy ox oy (farEnd (vec px py) (vec dx dy)) m
+  off-end m n = sym (ap (λ (t : Bool). cond t (point (farEnd (vec px py) (vec dx dy))) m) (on-flag ∙ n))
 
 -- ---- of an object that is no side
 
@@ -101,22 +101,22 @@ pub swapped : {p q : Vec} → Proper p q → Proper q p
 swapped h = record { small-p = h .small-q; small-q = h .small-p; differ = λ e f. h .differ (sym e) (sym f) }
 
 pub reversed : (p q : Vec) → q ⇀ p ≡ reverse (p ⇀ q)
-reversed p q = λ i. at (opposite (p .x) (q .x) i) (opposite (p .y) (q .y) i)
+reversed p q = λ i. vec (opposite (p .x) (q .x) i) (opposite (p .y) (q .y) i)
   where
     opposite : (a b : ℤ) → a -ℤ b ≡ negℤ (b -ℤ a)
     opposite a b = ring (a ∷ b ∷ []) (var 0 ⊖ var 1) (⊝ (var 1 ⊖ var 0)) tt
 
-pub place : {p : Vec} → Small 2000 p → at (out (p .x)) (out (p .y)) ≡ p
-place s = λ i. at (back (s .in-x) tt i) (back (s .in-y) tt i)
+pub place : {p : Vec} → WithinBoth 2000 p → vec (out (p .x)) (out (p .y)) ≡ p
+place s = λ i. vec (back (s .in-x) tt i) (back (s .in-y) tt i)
 
 module _ {p q : Vec} (h : Proper p q) where
   pub pair : All (2000 ∷ 2000 ∷ 2000 ∷ 2000 ∷ []) (p .x ∷ p .y ∷ q .x ∷ q .y ∷ [])
   pair = h .small-p .in-x also h .small-p .in-y also h .small-q .in-x also h .small-q .in-y also none
 
-  pub way : at (mach (p .x ∷ p .y ∷ q .x ∷ q .y ∷ []) dxE) (mach (p .x ∷ p .y ∷ q .x ∷ q .y ∷ []) dyE) ≡ p ⇀ q
-  way = λ i. at (gives pair dxE tt i) (gives pair dyE tt i)
+  pub way : vec (mach (p .x ∷ p .y ∷ q .x ∷ q .y ∷ []) dxE) (mach (p .x ∷ p .y ∷ q .x ∷ q .y ∷ []) dyE) ≡ p ⇀ q
+  way = λ i. vec (gives pair dxE tt i) (gives pair dyE tt i)
 
-  pub ahead : {a : Vec} → Small 2000 a
+  pub ahead : {a : Vec} → WithinBoth 2000 a
       → Ahead (out (a .x)) (out (a .y))
       (mach (p .x ∷ p .y ∷ q .x ∷ q .y ∷ []) dxE)
       (mach (p .x ∷ p .y ∷ q .x ∷ q .y ∷ []) dyE)

@@ -8,7 +8,6 @@ use Rattle.sheet.specs.declared.Ends.{Ends}
 use Rattle.sheet.specs.declared.Signed.{Signed}
 use Rattle.sheet.specs.declared.Crossing.{Crossing}
 use Rattle.sheet.specs.AnswersLaws.{ends-one, signed-one, crossing-one}
-use Rattle.kernel.proofs.points.check_object.Reads as check-object
 use Rattle.kernel.proofs.points.check_point.Reads as check-point
 use Rattle.kernel.proofs.ends.ends_of.Reads as ends-of
 use Rattle.kernel.proofs.signs.order_points.Reads as order-points
@@ -16,10 +15,6 @@ use Rattle.kernel.proofs.signs.turn_points.Reads as turn-points
 use Rattle.kernel.proofs.signs.side_of.Reads as side-of
 use Rattle.kernel.proofs.crossing.cross.Reads as cross
 use Rattle.kernel.proofs.circle.side_of_circle.Reads as side-of-circle
-
-pub check-object-answer :
-    (κs : Lfts 0) (o : Object) (r s : ℤ) → check-object.Post κs (o, tt) r (o, tt) → check-object.Post κs (o, tt) s (o, tt) → r ≡ s
-check-object-answer κs o r s p q = p ∙ sym q
 
 pub check-point-answer :
     (κs : Lfts 0) (a : Point) (r s : ℤ) → check-point.Post κs (a, tt) r (a, tt) → check-point.Post κs (a, tt) s (a, tt) → r ≡ s
@@ -32,8 +27,8 @@ ends-of-answer κs o r s p q = ends-one r s (p ∙ sym q)
 abbrev Two : Type 0
 Two = Point × (Point × Unit {0})
 
-abbrev Three : Type 0
-Three = Point × (Point × (Point × Unit {0}))
+abbrev ThreePoints : Type 0
+ThreePoints = Point × (Point × (Point × Unit {0}))
 
 abbrev With : Type 0
 With = Object × (Point × Unit {0})
@@ -41,7 +36,7 @@ With = Object × (Point × Unit {0})
 pub order-points-answer : (κs : Lfts 0) (a : Two) (r s : Signed) → order-points.Post κs a r a → order-points.Post κs a s a → r ≡ s
 order-points-answer κs a r s p q = signed-one r s (p ∙ sym q)
 
-pub turn-points-answer : (κs : Lfts 0) (a : Three) (r s : Signed) → turn-points.Post κs a r a → turn-points.Post κs a s a → r ≡ s
+pub turn-points-answer : (κs : Lfts 0) (a : ThreePoints) (r s : Signed) → turn-points.Post κs a r a → turn-points.Post κs a s a → r ≡ s
 turn-points-answer κs a r s p q = signed-one r s (p ∙ sym q)
 
 pub side-of-answer : (κs : Lfts 0) (a : With) (r s : Signed) → side-of.Post κs a r a → side-of.Post κs a s a → r ≡ s

@@ -10,8 +10,8 @@ use Rattle.sheet.specs.declared.Signed.{Signed}
 use Rattle.sheet.specs.declared.Signed.the-variants.{Sign, Refused}
 use Rattle.sheet.specs.Answers.{answer, signedSays}
 use Rattle.sheet.specs.AnswersLaws.{refused, accepted, by-answer, signed-one}
-use Rattle.sheet.specs.Circle.{sideOfCircle, circleRefusal}
-use Rattle.sheet.specs.CircleLaws.{circle-swap-first, circle-swap-middle, Repeats, circle-repeats, refusal-swap-first, refusal-swap-middle}
+use Rattle.sheet.specs.Circle.{sideOfCircle, circleRefusal, Repeats}
+use Rattle.sheet.specs.CircleLaws.{circle-swap-first, circle-swap-middle, circle-repeats, refusal-swap-first, refusal-swap-middle}
 use Rattle.kernel.proofs.circle.side_of_circle.Reads as side-of-circle
 
 -- the other sign, and the same refusal

@@ -6,14 +6,14 @@
 use mathlib.Core.Path.{_≡_, _∙_, ap₂}
 use lib.IntN.{ℤ, _-ℤ_, _*ℤ_}
 use Rattle.whole.specs.Sign.{sgn}
-use Rattle.whole.specs.Poly.{first}
+use Rattle.whole.specs.Choice.{orElse}
 use Rattle.whole.specs.Flat.{back, within-out}
 use Rattle.whole.specs.Bound.{fits64}
 use Rattle.whole.specs.Tests.{out, Fit, gave}
 use Rattle.sheet.specs.declared.Point.{Point}
 use Rattle.sheet.specs.PointsLaws.{Sizes}
 use Rattle.kernel.specs.Bounds.{Coordinate}
-use Rattle.kernel.proofs.Handed as handed
+use Rattle.kernel.proofs.Handed.{by-five, pointOf, pointOut}
 
 module _ {p : Point} (s : Sizes p) where
   pub x-of : Coordinate (p .mx) (p .nx) (p .w)
@@ -22,12 +22,10 @@ module _ {p : Point} (s : Sizes p) where
   pub y-of : Coordinate (p .my) (p .ny) (p .w)
   y-of = record { bm = s .in-my; bn = s .in-ny; bw = s .in-w .at-most }
 
-  pub point-out : handed.pointOut p ≡ p
+  pub point-out : pointOut p ≡ p
   point-out =
-      handed.point p
-      (fits64 (s .in-mx) tt .sfits) (fits64 (s .in-nx) tt .sfits)
-      (fits64 (s .in-my) tt .sfits) (fits64 (s .in-ny) tt .sfits)
-      (fits64 (s .in-w .at-most) tt .sfits)
+      by-five
+      (fits64 (s .in-mx) tt) (fits64 (s .in-nx) tt) (fits64 (s .in-my) tt) (fits64 (s .in-ny) tt) (fits64 (s .in-w .at-most) tt) pointOf
 
 pub coordinate-out : {m n w : ℤ} → Coordinate m n w → Coordinate (out m) (out n) (out w)
 coordinate-out c = record {
@@ -38,14 +36,14 @@ coordinate-out c = record {
 
 pub along-out :
     {m n w m2 n2 w2 : ℤ} → Coordinate m n w → Coordinate m2 n2 w2
-    → first (sgn (out m *ℤ out w2 -ℤ out m2 *ℤ out w)) (sgn (out n *ℤ out w2 -ℤ out n2 *ℤ out w))
-    ≡ first (sgn (m *ℤ w2 -ℤ m2 *ℤ w)) (sgn (n *ℤ w2 -ℤ n2 *ℤ w))
+    → orElse (sgn (out m *ℤ out w2 -ℤ out m2 *ℤ out w)) (sgn (out n *ℤ out w2 -ℤ out n2 *ℤ out w))
+    ≡ orElse (sgn (m *ℤ w2 -ℤ m2 *ℤ w)) (sgn (n *ℤ w2 -ℤ n2 *ℤ w))
 along-out c d =
     let w = back (c .bw) tt in
     let w2 = back (d .bw) tt in
-    λ i. first
+    λ i. orElse
     (sgn (back (c .bm) tt i *ℤ w2 i -ℤ back (d .bm) tt i *ℤ w i))
     (sgn (back (c .bn) tt i *ℤ w2 i -ℤ back (d .bn) tt i *ℤ w i))
 
-pub lead-is : {r a b u v : ℤ} → Fit r → r ≡ first (sgn a) (sgn b) → a ≡ u → b ≡ v → out r ≡ first (sgn u) (sgn v)
-lead-is h e a b = gave h e ∙ ap₂ (λ (x y : ℤ). first (sgn x) (sgn y)) a b
+pub lead-is : {r a b u v : ℤ} → Fit r → r ≡ orElse (sgn a) (sgn b) → a ≡ u → b ≡ v → out r ≡ orElse (sgn u) (sgn v)
+lead-is h e a b = gave h e ∙ ap₂ (λ (x y : ℤ). orElse (sgn x) (sgn y)) a b

@@ -8,7 +8,7 @@ use Prim.Native.Nat.{ℕ}
 use lib.IntN.{ℤ}
 use Rattle.whole.specs.Ring.{Expr, var, _⊕_, _⊖_, _⊗_}
 use Rattle.whole.specs.Flat.{All, none, _also_, small, back, within-out}
-use Rattle.whole.specs.Bound.{Within}
+use Rattle.whole.specs.Within.{Within}
 use Rattle.whole.specs.Tests.{out}
 use Rattle.sheet.specs.declared.Point.{Point}
 use Rattle.sheet.specs.Expansions.{det}

@@ -1,8 +1,8 @@
--- The code of two pieces: its eight numbers px, py, qx, qy, rx, ry, sx, sy as locals 0 to 7, what it computes of them, and how they are
+-- The code of two stretches: its eight numbers px, py, qx, qy, rx, ry, sx, sy as locals 0 to 7, what it computes of them, and how they are
 -- handed on. To cite:
 --   dxE, dyE, fxE, fyE, exE, eyE, acrossE   the differences and the cross product, as the code writes them
 --   near-out, apart-out     what an inner function asks, of the numbers as they come out of locals
---   piece-out               the piece of numbers out of locals
+--   stretch-out               the stretch of numbers out of locals
 --   times-sign-is, times-sign-size  what `times_sign` gives, by numbers equal to those that it was given; of a number with itself
 --   say                     what an accepted crossing says
 use mathlib.Core.Path.{_≡_, sym, _∙_}
@@ -14,12 +14,13 @@ use Rattle.whole.specs.Sign.{sgn}
 use Rattle.whole.specs.SignLaws.{sgn-mul-self}
 use Rattle.whole.specs.Ring.{Expr, var, _⊖_, _⊗_}
 use Rattle.whole.specs.Flat.{none, _also_, gives, held}
-use Rattle.whole.specs.Tests.{out, out-is, Fit, gave}
+use Rattle.whole.specs.Tests.{out, Fit, gave}
 use Rattle.sheet.specs.Points.{size}
 use Rattle.sheet.specs.Crossing.{Meeting}
 use Rattle.sheet.specs.Answers.{meetingNumbers}
-use Rattle.kernel.specs.Bounds.{Near, Apart}
-use Rattle.kernel.specs.Pieces.{piece}
+use Rattle.kernel.specs.Bounds.{FourPoints, Apart}
+use Rattle.kernel.specs.Stretches.{stretch}
+use Rattle.kernel.proofs.Handed.{by-five}
 
 abbrev pub dxE : Expr
 dxE = var 2 ⊖ var 0
@@ -46,7 +47,7 @@ abbrev pub say : Meeting → List ℤ
 say m = pos 0 ∷ meetingNumbers m
 
 module _ {px py qx qy rx ry sx sy : ℤ} where
-  pub near-out : Near px py qx qy rx ry sx sy → Near (out px) (out py) (out qx) (out qy) (out rx) (out ry) (out sx) (out sy)
+  pub near-out : FourPoints px py qx qy rx ry sx sy → FourPoints (out px) (out py) (out qx) (out qy) (out rx) (out ry) (out sx) (out sy)
   near-out h =
       let b = h .near in
       record {
@@ -66,10 +67,10 @@ module _ {px py qx qy rx ry sx sy : ℤ} where
       in
       record { near = near-out (h .near); apart = λ e. h .apart (sym across ∙ e) }
 
-pub piece-out :
+pub stretch-out :
     {kind px py qx qy : ℤ} → SFits w64 kind → SFits w64 px → SFits w64 py → SFits w64 qx → SFits w64 qy
-    → piece (out kind) (out px) (out py) (out qx) (out qy) ≡ piece kind px py qx qy
-piece-out k a b c d = λ i. piece (out-is k i) (out-is a i) (out-is b i) (out-is c i) (out-is d i)
+    → stretch (out kind) (out px) (out py) (out qx) (out qy) ≡ stretch kind px py qx qy
+stretch-out k a b c d = by-five k a b c d stretch
 
 pub times-sign-is : {r a z D y : ℤ} → Fit r → r ≡ sgn a *ℤ z → a ≡ D → z ≡ y → out r ≡ sgn D *ℤ y
 times-sign-is h e f g = gave h e ∙ (λ i. sgn (f i) *ℤ g i)

@@ -1,46 +1,55 @@
--- A struct that is handed on number by number is the struct: each number comes out of a local as it went in. To cite:
---   objectOut, pointOut       the struct of numbers that come out of locals
---   object, point             from what is known of each number: `object o (s .fits .kind .sfits) (s .fits .px .sfits) ..`
---   object-told, point-told   from what `struct-told` says of all five: `object-told o (c .struct-told .given)`
-use mathlib.Core.Path.{_≡_}
-use Rattle.whole.specs.Tests.{out, out-ok, Fit}
+-- Numbers that are handed on are the numbers: each comes out of a local as it went in. To cite:
+--   by-five                     whatever is said of five numbers: `by-five figureOf (s .fits .kind) (s .fits .px) ..`
+--   numbers-out                 five numbers of an accepted object are such as they are handed on
+--   figure-told, numbers-told   an object's numbers, from what `struct-told` says of the first five: `figure-told o (c .struct-told .given)`
+--   pointOf, pointOut, point    the point of five numbers, and of numbers that come out of locals, which is the point
+--   point-told                  .. from what `struct-told` says
+use mathlib.Core.Path.{_≡_, _∙_}
+use lib.IntN.{ℤ}
+use mir.Syntax.{w64}
+use mir.Val.{SFits}
+use Rattle.whole.specs.Tests.{out, out-is, Fit, fits-ok}
 use Rattle.sheet.specs.declared.Object.{Object}
 use Rattle.sheet.specs.declared.Point.{Point}
+use Rattle.sheet.specs.Figure.{figureOf, figure}
+use Rattle.sheet.specs.Refusal.{refusalOf, Accepted}
+use Rattle.sheet.specs.RefusalLaws.{by-numbers}
+use Rattle.kernel.specs.Bounds.{Numbers}
 
-abbrev pub objectOut : Object → Object
-objectOut o = record { kind = out (o .kind); px = out (o .px); py = out (o .py); qx = out (o .qx); qy = out (o .qy) }
+module _ {a b c d e : ℤ} (fa : SFits w64 a) (fb : SFits w64 b) (fc : SFits w64 c) (fd : SFits w64 d) (fe : SFits w64 e) where
+  pub by-five : {X : Type 0} (f : ℤ → ℤ → ℤ → ℤ → ℤ → X) → f (out a) (out b) (out c) (out d) (out e) ≡ f a b c d e
+  by-five f = λ i. f (out-is fa i) (out-is fb i) (out-is fc i) (out-is fd i) (out-is fe i)
+
+  pub numbers-out : Numbers a b c d e → Numbers (out a) (out b) (out c) (out d) (out e)
+  numbers-out n = record { not-refused = by-five refusalOf ∙ n .not-refused }
+
+abbrev pub pointOf : ℤ → ℤ → ℤ → ℤ → ℤ → Point
+pointOf mx nx my ny w = record { mx = mx; nx = nx; my = my; ny = ny; w = w }
 
 abbrev pub pointOut : Point → Point
-pointOut p = record { mx = out (p .mx); nx = out (p .nx); my = out (p .my); ny = out (p .ny); w = out (p .w) }
-
-pub object : (o : Object) → Fit (o .kind) → Fit (o .px) → Fit (o .py) → Fit (o .qx) → Fit (o .qy) → objectOut o ≡ o
-object o a b c d e = λ i. record {
-  kind = out-ok (o .kind) a i;
-  px = out-ok (o .px) b i;
-  py = out-ok (o .py) c i;
-  qx = out-ok (o .qx) d i;
-  qy = out-ok (o .qy) e i;
-}
+pointOut p = pointOf (out (p .mx)) (out (p .nx)) (out (p .my)) (out (p .ny)) (out (p .w))
 
 pub point : (p : Point) → Fit (p .mx) → Fit (p .nx) → Fit (p .my) → Fit (p .ny) → Fit (p .w) → pointOut p ≡ p
-point p a b c d e = λ i. record {
-  mx = out-ok (p .mx) a i;
-  nx = out-ok (p .nx) b i;
-  my = out-ok (p .my) c i;
-  ny = out-ok (p .ny) d i;
-  w = out-ok (p .w) e i;
-}
+point p a b c d e =
+    by-five (fits-ok (p .mx) a) (fits-ok (p .nx) b) (fits-ok (p .my) c) (fits-ok (p .ny) d) (fits-ok (p .w) e) pointOf
 
 -- of each number something else is told first
-module _ {A B C D E F : Type 0} where
-  pub object-told :
-      (o : Object)
-      → (A × Fit (o .kind)) × ((B × Fit (o .px)) × ((C × Fit (o .py)) × ((D × Fit (o .qx)) × ((E × Fit (o .qy)) × F))))
-      → objectOut o ≡ o
-  object-told o t = object o (t .0 .1) (t .1 .0 .1) (t .1 .1 .0 .1) (t .1 .1 .1 .0 .1) (t .1 .1 .1 .1 .0 .1)
+abbrev Told : (A B C D E F : Type 0) → ℤ → ℤ → ℤ → ℤ → ℤ → Type 0
+Told A B C D E F a b c d e = (A × Fit a) × ((B × Fit b) × ((C × Fit c) × ((D × Fit d) × ((E × Fit e) × F))))
 
-  pub point-told :
-      (p : Point)
-      → (A × Fit (p .mx)) × ((B × Fit (p .nx)) × ((C × Fit (p .my)) × ((D × Fit (p .ny)) × ((E × Fit (p .w)) × F))))
-      → pointOut p ≡ p
-  point-told p t = point p (t .0 .1) (t .1 .0 .1) (t .1 .1 .0 .1) (t .1 .1 .1 .0 .1) (t .1 .1 .1 .1 .0 .1)
+module _ {A B C D E F : Type 0} where
+  by-told : {X : Type 0} (f : ℤ → ℤ → ℤ → ℤ → ℤ → X) (a b c d e : ℤ) → Told A B C D E F a b c d e → f (out a) (out b) (out c) (out d) (out e) ≡ f a b c d e
+  by-told f a b c d e t =
+      by-five
+      (fits-ok a (t .0 .1)) (fits-ok b (t .1 .0 .1)) (fits-ok c (t .1 .1 .0 .1))
+      (fits-ok d (t .1 .1 .1 .0 .1)) (fits-ok e (t .1 .1 .1 .1 .0 .1)) f
+
+  module _ (o : Object) (t : Told A B C D E F (o .kind) (o .px) (o .py) (o .qx) (o .qy)) where
+    pub figure-told : figureOf (out (o .kind)) (out (o .px)) (out (o .py)) (out (o .qx)) (out (o .qy)) ≡ figure o
+    figure-told = by-told figureOf (o .kind) (o .px) (o .py) (o .qx) (o .qy) t
+
+    pub numbers-told : Accepted o → Numbers (out (o .kind)) (out (o .px)) (out (o .py)) (out (o .qx)) (out (o .qy))
+    numbers-told a = record { not-refused = by-told refusalOf (o .kind) (o .px) (o .py) (o .qx) (o .qy) t ∙ by-numbers a }
+
+  pub point-told : (p : Point) → Told A B C D E F (p .mx) (p .nx) (p .my) (p .ny) (p .w) → pointOut p ≡ p
+  point-told p t = by-told pointOf (p .mx) (p .nx) (p .my) (p .ny) (p .w) t

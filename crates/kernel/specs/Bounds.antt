@@ -4,9 +4,14 @@ use mathlib.Core.List.{List, [], _∷_}
 use Prim.Native.Nat.{ℕ, _<_, _≤_}
 use lib.IntN.{ℤ, pos, _-ℤ_, _*ℤ_}
 use lib.Signed.{_<ℤ_}
-use Rattle.whole.specs.Bound.{Within}
+use Rattle.whole.specs.Within.{Within}
 use Rattle.whole.specs.Flat.{All}
 use Rattle.sheet.specs.declared.Point.{Point}
+use Rattle.sheet.specs.Refusal.{refusalOf}
+
+-- the five numbers of an accepted object
+pub record Numbers (kind px py qx qy : ℤ) : Type 0 where
+  pub not-refused : refusalOf kind px py qx qy ≡ pos 0
 
 -- five numbers before the common divisor goes out
 pub record Raw (mx nx my ny w : ℤ) : Type 0 where
@@ -65,7 +70,7 @@ pub record Pair (px py qx qy : ℤ) : Type 0 where
   pub bqy : Within 2000 qy
 
 -- three given points
-pub record Three (px py qx qy sx sy : ℤ) : Type 0 where
+pub record ThreePoints (px py qx qy sx sy : ℤ) : Type 0 where
   pub near : All (2000 ∷ 2000 ∷ 2000 ∷ 2000 ∷ 2000 ∷ 2000 ∷ []) (px ∷ py ∷ qx ∷ qy ∷ sx ∷ sy ∷ [])
 
 -- eight coordinates of given points
@@ -73,12 +78,12 @@ abbrev pub eight : List ℕ
 eight = 2000 ∷ 2000 ∷ 2000 ∷ 2000 ∷ 2000 ∷ 2000 ∷ 2000 ∷ 2000 ∷ []
 
 -- four given points, as those of two objects that are no sides
-pub record Near (px py qx qy rx ry sx sy : ℤ) : Type 0 where
+pub record FourPoints (px py qx qy rx ry sx sy : ℤ) : Type 0 where
   pub near : All eight (px ∷ py ∷ qx ∷ qy ∷ rx ∷ ry ∷ sx ∷ sy ∷ [])
 
 -- their directions are not parallel
 pub record Apart (px py qx qy rx ry sx sy : ℤ) : Type 0 where
-  pub near : Near px py qx qy rx ry sx sy
+  pub near : FourPoints px py qx qy rx ry sx sy
   pub apart : ((qx -ℤ px) *ℤ (sy -ℤ ry) -ℤ (qy -ℤ py) *ℤ (sx -ℤ rx)) ≡ pos 0 → ⊥
 
 -- a number that is not 0, and one that its sign goes into

@@ -1,12 +1,13 @@
 -- The forms in which the code computes what the paper defines, and that they are the same. To cite:
 --   isFlat, flat-form, steep-form   which form the far end has, by one test, and that its w is above 0
 --   flat-is, steep-is     its numbers with fewer products
+--   not-beyond            a coordinate that is not beyond reach is within it
 --   pairSide              the side of the line from p to q
 --   mixed-is              the coefficient of R in the turn is a sum of two determinants
 --   divisor-bounds        the common divisor is above 0 and small
 -- Assumes nothing.
-use mathlib.Core.Path.{_≡_, sym, ap, subst}
-use mathlib.Core.Bool.{Bool, true, false, _&&_, _||_}
+use mathlib.Core.Path.{_≡_, refl, sym, ap, subst}
+use mathlib.Core.Bool.{Bool, true, false, not, _&&_, _||_}
 use mathlib.Core.List.{[], _∷_}
 use Prim.Native.Nat.{_<_, _≤_}
 use native.Mathlib.Nat.{le-trans, le-of-dvd}
@@ -16,17 +17,19 @@ use lib.Signed.{ltZ, leZ, _<ℤ_, clashℤ}
 use Rattle.whole.specs.Sign.{sgn}
 use Rattle.whole.specs.SignLaws.{sgn-abs}
 use Rattle.whole.specs.Flag.{eqZ}
-use Rattle.whole.specs.Tests.{eq-eqZ, ne-eqZ, lt-ltZ, le-ltZ, le-leZ, lt-leZ}
+use Rattle.whole.specs.Tests.{ltZ-true, ltZ-false, eq-eqZ, ne-eqZ, lt-ltZ, le-ltZ, le-leZ, lt-leZ}
 use Rattle.sheet.specs.declared.Point.{Point}
 use Rattle.sheet.specs.Ends.{flat, steep, farRaw}
 use Rattle.sheet.specs.EndsLaws.{Far, far, flatter, steeper, tie-flat, tie-steep, moving}
-use Rattle.whole.specs.Poly.{first}
+use Rattle.whole.specs.Choice.{orElse}
 use Rattle.whole.specs.Reify.{reify, reading, solve}
 use Rattle.whole.specs.Order.{pp-dest, nn-pos, ≤-<-trans, ≤-of, <-≤}
 use Rattle.whole.specs.Divisor.{gcdOf}
 use Rattle.whole.specs.DivisorLaws.{gcdOf-above}
 use Rattle.sheet.specs.PointsLaws.{divides-w}
-use Rattle.sheet.specs.Points.{size}
+use Rattle.sheet.specs.Limits.{reach}
+use Rattle.sheet.specs.Refusal.{beyond}
+use Rattle.sheet.specs.Points.{size, within}
 use Rattle.sheet.specs.Expansions.{det, turnB}
 use Rattle.kernel.specs.Bounds.{Raw}
 
@@ -73,6 +76,22 @@ module _ (dx dy k : ℤ) where
   pub steep-is : steep dx dy k ≡ record { mx = dx; nx = negℤ (sgn dy *ℤ k); my = dy; ny = pos 0; w = size dy }
   steep-is = λ i. record { mx = dx; nx = negℤ (sgn dy *ℤ k); my = sgn-abs dy i; ny = pos 0; w = size dy }
 
+-- ---- the largest coordinate
+
+not-lt : (a b : ℤ) → leZ b a ≡ not (ltZ a b)
+not-lt a b = go (ltZ a b) refl
+  where
+    go : (t : Bool) → ltZ a b ≡ t → leZ b a ≡ not t
+    go true e = lt-leZ {a = b} {b = a} (ltZ-true e)
+    go false e = le-leZ {a = b} {b = a} (ltZ-false e)
+
+pub not-beyond : (z : ℤ) → not (beyond z) ≡ within reach z
+not-beyond z = go (ltZ z (negℤ reach)) (ltZ reach z) (not-lt z (negℤ reach)) (not-lt reach z)
+  where
+    go : (s t : Bool) → leZ (negℤ reach) z ≡ not s → leZ z reach ≡ not t → not (s || t) ≡ within reach z
+    go true t e f = sym (simp (e, f))
+    go false t e f = sym (simp (e, f))
+
 -- ---- the divisor of five numbers
 
 pub divisor-bounds :
@@ -99,5 +118,5 @@ mixed-is p q s =
 
 abbrev pub pairSide : ℤ → ℤ → ℤ → ℤ → ℤ → ℤ → ℤ → ℤ → ℤ → ℤ
 pairSide px py qx qy mx nx my ny w =
-    first (sgn ((qx -ℤ px) *ℤ my -ℤ (qy -ℤ py) *ℤ mx))
+    orElse (sgn ((qx -ℤ px) *ℤ my -ℤ (qy -ℤ py) *ℤ mx))
     (sgn ((qx -ℤ px) *ℤ ny -ℤ (qy -ℤ py) *ℤ nx -ℤ w *ℤ ((qx -ℤ px) *ℤ py -ℤ (qy -ℤ py) *ℤ px)))

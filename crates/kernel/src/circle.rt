@@ -10,25 +10,25 @@ use crate::lead::lead;
 use crate::points::check_given;
 use crate::points::check_point;
 use crate::points::check_standard;
-use crate::signs::or_else;
 use crate::signs::pair_side;
 use sheet::Point;
 use sheet::Signed;
+use sheet::refusal::NOT_GIVEN;
 ghost use mathlib.Core.Path.{_≡_};
 ghost use mathlib.Core.List.{[], _∷_};
 ghost use Rattle.whole.specs.Sign.{sgn};
+ghost use Rattle.sheet.specs.Figure.{vec};
 ghost use Rattle.sheet.specs.Points.{pointRefusal};
 ghost use Rattle.sheet.specs.Answers.{answer, signedSays};
 ghost use Rattle.sheet.specs.Circle.{sideOfCircle, givenRefusal, circleRefusal};
 ghost use Rattle.sheet.specs.CircleLaws.{Given, Fourth};
 ghost use Rattle.sheet.specs.Angles.{givenForm, frameForm};
-ghost use Rattle.kernel.specs.Bounds.{Three, Near, Coordinate};
-ghost use Rattle.kernel.specs.Pieces.{at};
+ghost use Rattle.kernel.specs.Bounds.{ThreePoints, FourPoints, Coordinate};
 
 // Of four given points.
 fn given_circle(px: i64, py: i64, qx: i64, qy: i64, sx: i64, sy: i64, ux: i64, uy: i64) -> i64
-    requires { ⌜ Near px py qx qy sx sy ux uy ⌝ }
-    ensures { λ r. ⌜ r ≡ sgn (givenForm (at px py) (at qx qy) (at sx sy) (at ux uy)) ⌝ }
+    requires { ⌜ FourPoints px py qx qy sx sy ux uy ⌝ }
+    ensures { λ r. ⌜ r ≡ sgn (givenForm (vec px py) (vec qx qy) (vec sx sy) (vec ux uy)) ⌝ }
 {
     let ax = qx - px;
     let ay = qy - py;
@@ -59,8 +59,8 @@ fn frame_circle(
     ny: i64,
     w: i64,
 ) -> i64
-    requires { ⌜ Three px py qx qy sx sy × Coordinate mx nx w × Coordinate my ny w ⌝ }
-    ensures { λ r. ⌜ r ≡ frameForm (at px py) (at qx qy) (at sx sy) (record { mx = mx; nx = nx; my = my; ny = ny; w = w }) ⌝ }
+    requires { ⌜ ThreePoints px py qx qy sx sy × Coordinate mx nx w × Coordinate my ny w ⌝ }
+    ensures { λ r. ⌜ r ≡ frameForm (vec px py) (vec qx qy) (vec sx sy) (record { mx = mx; nx = nx; my = my; ny = ny; w = w }) ⌝ }
 {
     let ax = qx - px;
     let ay = qy - py;
@@ -102,7 +102,7 @@ fn given_refusal(p: Point, q: Point, s: Point, u: Point) -> i64
     if check_given(p) & check_given(q) & check_given(s) & fourth {
         return 0;
     }
-    21
+    NOT_GIVEN
 }
 
 // 0 for a point, 5 for five numbers that are none. A given point is one, and its divisor has not to be found.
@@ -120,8 +120,8 @@ fn circle_refusal(p: Point, q: Point, s: Point, u: Point) -> i64
 {
     let fourth = point_refusal(u);
     let given = given_refusal(p, q, s, u);
-    let late = or_else(point_refusal(s), or_else(fourth, given));
-    or_else(point_refusal(p), or_else(point_refusal(q), late))
+    let late = whole::or_else(point_refusal(s), whole::or_else(fourth, given));
+    whole::or_else(point_refusal(p), whole::or_else(point_refusal(q), late))
 }
 
 // The side of the circle through three given points that a fourth is on, which is a given point or on the frame. Where the three turn left: 1

@@ -1,17 +1,17 @@
 // The crossing of two objects: none, point or many.
-use crate::pieces::cross_pieces;
-use crate::touch::with_side;
+use crate::sides::with_side;
+use crate::stretches::cross_stretches;
 use sheet::Crossing;
 use sheet::Object;
 ghost use mathlib.Core.Path.{_≡_};
 ghost use mathlib.Core.List.{_∷_};
 ghost use lib.IntN.{pos};
-ghost use Rattle.sheet.specs.Refusal.{Accepted};
-ghost use Rattle.sheet.specs.Crossing.{crossingOf, crossingRefusal};
+ghost use Rattle.sheet.specs.Figure.{figureOf};
+ghost use Rattle.sheet.specs.Crossing.{meeting, crossingOf, crossingRefusal};
 ghost use Rattle.sheet.specs.Answers.{answer, meetingNumbers, crossingSays};
-ghost use Rattle.kernel.specs.Pieces.{object};
+ghost use Rattle.kernel.specs.Bounds.{Numbers};
 
-// The answers with a side have names of their own: the common answer, from cross_pieces, then stays in registers and out of memory.
+// The answers with a side have names of their own: the common answer, from cross_stretches, then stays in registers and out of memory.
 fn meet(
     ka: i64,
     px: i64,
@@ -24,9 +24,9 @@ fn meet(
     sx: i64,
     sy: i64,
 ) -> Crossing
-    requires { ⌜ Accepted (object ka px py qx qy) ⌝ }
-    requires { ⌜ Accepted (object kb rx ry sx sy) ⌝ }
-    ensures { λ r. ⌜ crossingSays r ≡ pos 0 ∷ meetingNumbers (crossingOf (object ka px py qx qy) (object kb rx ry sx sy)) ⌝ }
+    requires { ⌜ Numbers ka px py qx qy ⌝ }
+    requires { ⌜ Numbers kb rx ry sx sy ⌝ }
+    ensures { λ r. ⌜ crossingSays r ≡ pos 0 ∷ meetingNumbers (meeting (figureOf ka px py qx qy) (figureOf kb rx ry sx sy)) ⌝ }
 {
     if ka == Object::SIDE {
         let found = with_side(px, kb, rx, ry, sx, sy);
@@ -36,7 +36,7 @@ fn meet(
         let found = with_side(rx, ka, px, py, qx, qy);
         return found;
     }
-    cross_pieces(ka, px, py, qx, qy, kb, rx, ry, sx, sy)
+    cross_stretches(ka, px, py, qx, qy, kb, rx, ry, sx, sy)
 }
 
 // What two objects share. The first one's refusal comes first, then the second's.

@@ -6,55 +6,32 @@ use sheet::Point;
 ghost use mathlib.Core.Path.{_≡_};
 ghost use mathlib.Core.List.{_∷_, _++_};
 ghost use lib.IntN.{pos};
-ghost use Rattle.sheet.specs.Figure.{sideOf};
-ghost use Rattle.sheet.specs.Refusal.{objectRefusal, Accepted};
-ghost use Rattle.sheet.specs.Points.{numbers, given};
-ghost use Rattle.sheet.specs.Ends.{corner, begins, firstEnd, lastEnd};
+ghost use Rattle.sheet.specs.Figure.{sideOf, figureOf};
+ghost use Rattle.sheet.specs.Refusal.{objectRefusal};
+ghost use Rattle.sheet.specs.Points.{numbers};
+ghost use Rattle.sheet.specs.Ends.{begins, firstOf, lastOf, firstEnd, lastEnd};
 ghost use Rattle.sheet.specs.Answers.{answer, endsSay};
-
-fn given_point(x: i64, y: i64) -> Point
-    ensures { λ r. ⌜ r ≡ given (record { x = x; y = y }) ⌝ }
-{
-    Point {
-        mx: 0,
-        nx: x,
-        my: 0,
-        ny: y,
-        w: 1,
-    }
-}
-
-fn frame_corner(mx: i64, my: i64) -> Point
-    ensures { λ r. ⌜ r ≡ corner mx my ⌝ }
-{
-    Point {
-        mx,
-        nx: 0,
-        my,
-        ny: 0,
-        w: 1,
-    }
-}
+ghost use Rattle.kernel.specs.Bounds.{Numbers};
 
 // The corner where side n begins.
 fn side_begins(n: i64) -> Point
     ensures { λ r. ⌜ r ≡ begins (sideOf n) ⌝ }
 {
     if n == 1 {
-        return frame_corner(-1, 1);
+        return Point::corner(-1, 1);
     }
     if n == 2 {
-        return frame_corner(-1, -1);
+        return Point::corner(-1, -1);
     }
     if n == 3 {
-        return frame_corner(1, -1);
+        return Point::corner(1, -1);
     }
-    frame_corner(1, 1)
+    Point::corner(1, 1)
 }
 
 fn first_end(kind: i64, px: i64, py: i64, qx: i64, qy: i64) -> Point
-    requires { ⌜ Accepted (record { kind = kind; px = px; py = py; qx = qx; qy = qy }) ⌝ }
-    ensures { λ r. ⌜ r ≡ firstEnd (record { kind = kind; px = px; py = py; qx = qx; qy = qy }) ⌝ }
+    requires { ⌜ Numbers kind px py qx qy ⌝ }
+    ensures { λ r. ⌜ r ≡ firstOf (figureOf kind px py qx qy) ⌝ }
 {
     if kind == Object::SIDE {
         return side_begins(px);
@@ -64,12 +41,12 @@ fn first_end(kind: i64, px: i64, py: i64, qx: i64, qy: i64) -> Point
         let down = py - qy;
         return far_end(px, py, back, down);
     }
-    given_point(px, py)
+    Point::given(px, py)
 }
 
 fn last_end(kind: i64, px: i64, py: i64, qx: i64, qy: i64) -> Point
-    requires { ⌜ Accepted (record { kind = kind; px = px; py = py; qx = qx; qy = qy }) ⌝ }
-    ensures { λ r. ⌜ r ≡ lastEnd (record { kind = kind; px = px; py = py; qx = qx; qy = qy }) ⌝ }
+    requires { ⌜ Numbers kind px py qx qy ⌝ }
+    ensures { λ r. ⌜ r ≡ lastOf (figureOf kind px py qx qy) ⌝ }
 {
     if kind == Object::SIDE {
         // a side ends where the next one begins, and 1 comes after 4
@@ -77,7 +54,7 @@ fn last_end(kind: i64, px: i64, py: i64, qx: i64, qy: i64) -> Point
         return side_begins(next);
     }
     if kind == Object::SEGMENT {
-        return given_point(qx, qy);
+        return Point::given(qx, qy);
     }
     let dx = qx - px;
     let dy = qy - py;
@@ -85,8 +62,8 @@ fn last_end(kind: i64, px: i64, py: i64, qx: i64, qy: i64) -> Point
 }
 
 fn both_ends(kind: i64, px: i64, py: i64, qx: i64, qy: i64) -> Ends
-    requires { ⌜ Accepted (record { kind = kind; px = px; py = py; qx = qx; qy = qy }) ⌝ }
-    ensures { λ r. ⌜ endsSay r ≡ pos 0 ∷ (numbers (firstEnd (record { kind = kind; px = px; py = py; qx = qx; qy = qy })) ++ numbers (lastEnd (record { kind = kind; px = px; py = py; qx = qx; qy = qy }))) ⌝ }
+    requires { ⌜ Numbers kind px py qx qy ⌝ }
+    ensures { λ r. ⌜ endsSay r ≡ pos 0 ∷ (numbers (firstOf (figureOf kind px py qx qy)) ++ numbers (lastOf (figureOf kind px py qx qy))) ⌝ }
 {
     let first = first_end(kind, px, py, qx, qy);
     let last = last_end(kind, px, py, qx, qy);

@@ -4,7 +4,8 @@ use sheet::Point;
 ghost use mathlib.Core.Path.{_≡_};
 ghost use lib.IntN.{pos};
 ghost use lib.Signed.{_<ℤ_};
-ghost use Rattle.whole.specs.Bound.{Within};
+ghost use Rattle.whole.specs.Within.{Within};
+ghost use Rattle.sheet.specs.Figure.{vec};
 ghost use Rattle.sheet.specs.Ends.{flat, steep, farEnd};
 ghost use Rattle.sheet.specs.Points.{size, divided};
 ghost use Rattle.kernel.specs.Bounds.{Direction, Ahead};
@@ -59,7 +60,7 @@ fn steep_end(dx: i64, dy: i64, k: i64) -> Point
 
 pub fn far_end(px: i64, py: i64, dx: i64, dy: i64) -> Point
     requires { ⌜ Ahead px py dx dy ⌝ }
-    ensures { λ r. ⌜ r ≡ farEnd (record { x = px; y = py }) (record { x = dx; y = dy }) ⌝ }
+    ensures { λ r. ⌜ r ≡ farEnd (vec px py) (vec dx dy) ⌝ }
 {
     let k = dx * py - dy * px;
     if is_flat(dx, dy, k) {

@@ -6,10 +6,11 @@ ghost use mathlib.Core.Path.{_≡_};
 ghost use mathlib.Core.Bool.{cond};
 ghost use mathlib.Core.List.{_∷_};
 ghost use lib.IntN.{pos};
+ghost use Rattle.sheet.specs.Figure.{vec};
 ghost use Rattle.sheet.specs.Crossing as crossing;
 ghost use Rattle.sheet.specs.Answers.{meetingNumbers, crossingSays};
-ghost use Rattle.kernel.specs.Bounds.{Near};
-ghost use Rattle.kernel.specs.Pieces.{at, piece, betweenBy, overlapBy};
+ghost use Rattle.kernel.specs.Bounds.{FourPoints};
+ghost use Rattle.kernel.specs.Stretches.{stretch, betweenBy, overlapBy};
 
 // Larger than any inner product: where there is no limit.
 const FAR: i64 = 100_000_000;
@@ -25,7 +26,7 @@ fn pick(test: bool, yes: i64, no: i64) -> i64
 
 // From lo, which is the place x, y, to hi: many, that place, or nothing.
 fn between(lo: i64, hi: i64, x: i64, y: i64) -> Crossing
-    ensures { λ r. ⌜ crossingSays r ≡ pos 0 ∷ meetingNumbers (betweenBy lo hi (at x y)) ⌝ }
+    ensures { λ r. ⌜ crossingSays r ≡ pos 0 ∷ meetingNumbers (betweenBy lo hi (vec x y)) ⌝ }
 {
     if lo < hi {
         return Crossing::Many;
@@ -33,19 +34,13 @@ fn between(lo: i64, hi: i64, x: i64, y: i64) -> Crossing
     if hi < lo {
         return Crossing::Nothing;
     }
-    let e = Point {
-        mx: 0,
-        nx: x,
-        my: 0,
-        ny: y,
-        w: 1,
-    };
+    let e = Point::given(x, y);
     Crossing::Once(e)
 }
 
 // From the later of two starts to the sooner of two stops.
 fn overlap(lo: i64, hi: i64, x: i64, y: i64, low: i64, high: i64, u: i64, v: i64) -> Crossing
-    ensures { λ r. ⌜ crossingSays r ≡ pos 0 ∷ meetingNumbers (overlapBy lo hi (at x y) low high (at u v)) ⌝ }
+    ensures { λ r. ⌜ crossingSays r ≡ pos 0 ∷ meetingNumbers (overlapBy lo hi (vec x y) low high (vec u v)) ⌝ }
 {
     let stop = pick(hi < high, hi, high);
     if lo < low {
@@ -67,8 +62,8 @@ pub fn together(
     sx: i64,
     sy: i64,
 ) -> Crossing
-    requires { ⌜ Near px py qx qy rx ry sx sy ⌝ }
-    ensures { λ r. ⌜ crossingSays r ≡ pos 0 ∷ meetingNumbers (crossing.together (piece ka px py qx qy) (piece kb rx ry sx sy)) ⌝ }
+    requires { ⌜ FourPoints px py qx qy rx ry sx sy ⌝ }
+    ensures { λ r. ⌜ crossingSays r ≡ pos 0 ∷ meetingNumbers (crossing.together (stretch ka px py qx qy) (stretch kb rx ry sx sy)) ⌝ }
 {
     let dx = qx - px;
     let dy = qy - py;

@@ -1,12 +1,11 @@
 // Which five numbers are a point.
 use crate::divide::divisor;
-use sheet::Object;
 use sheet::Point;
+use sheet::refusal::NO_POINT;
 ghost use mathlib.Core.Path.{_≡_};
 ghost use mathlib.Core.Bool.{_&&_};
 ghost use lib.IntN.{pos};
 ghost use lib.Signed.{leZ};
-ghost use Rattle.sheet.specs.Refusal.{objectRefusal};
 ghost use Rattle.sheet.specs.Points.{standard, edge, inSquare, narrow, frame, isPoint, pointRefusal};
 ghost use Rattle.sheet.specs.Circle.{isGiven};
 
@@ -29,8 +28,8 @@ fn is_standard(mx: i64, nx: i64, my: i64, ny: i64, w: i64) -> bool
 fn is_given(mx: i64, nx: i64, my: i64, ny: i64, w: i64) -> bool
     ensures { λ r. ⌜ r ≡ isGiven (record { mx = mx; nx = nx; my = my; ny = ny; w = w }) ⌝ }
 {
-    let nx_in = is_between(-Object::REACH, Object::REACH, nx);
-    let ny_in = is_between(-Object::REACH, Object::REACH, ny);
+    let nx_in = !sheet::is_beyond(nx);
+    let ny_in = !sheet::is_beyond(ny);
     is_standard(mx, nx, my, ny, w) & (w == 1) & nx_in & ny_in
 }
 
@@ -75,7 +74,10 @@ fn is_point(mx: i64, nx: i64, my: i64, ny: i64, w: i64) -> bool
     ensures { λ r. ⌜ r ≡ isPoint (record { mx = mx; nx = nx; my = my; ny = ny; w = w }) ⌝ }
 {
     let placed = is_standard(mx, nx, my, ny, w) | is_frame(mx, nx, my, ny, w);
-    placed & (divisor(mx, nx, my, ny, w) == 1)
+    if !placed {
+        return false;
+    }
+    divisor(mx, nx, my, ny, w) == 1
 }
 
 // 0 for a point, 5 for five numbers that are none.
@@ -85,14 +87,7 @@ pub fn check_point(p: Point) -> i64
     if is_point(p.mx, p.nx, p.my, p.ny, p.w) {
         return 0;
     }
-    5
-}
-
-// 0 for an object, or its refusal.
-pub fn check_object(o: Object) -> i64
-    ensures { λ r. ⌜ r ≡ objectRefusal o ⌝ }
-{
-    sheet::object_refusal(o)
+    NO_POINT
 }
 
 // Whether a point is fit for a turn.

@@ -5,36 +5,27 @@ use crate::points::check_point;
 use sheet::Object;
 use sheet::Point;
 use sheet::Signed;
+use sheet::refusal::WIDE_POINT;
 ghost use mathlib.Core.Path.{_≡_};
 ghost use mathlib.Core.List.{[], _∷_};
 ghost use lib.IntN.{_-ℤ_, _*ℤ_};
 ghost use Rattle.whole.specs.Sign.{sgn};
-ghost use Rattle.whole.specs.Poly.{first};
+ghost use Rattle.whole.specs.Choice.{orElse};
 ghost use Rattle.sheet.specs.Figure.{sideOf, side};
 ghost use Rattle.sheet.specs.Refusal.{Accepted};
 ghost use Rattle.sheet.specs.PointsLaws.{Sizes};
-ghost use Rattle.sheet.specs.Signs.{order, turn, sideOfFigure, sideSign, orElse, orderRefusal, wideRefusal, turnRefusal, sideSignRefusal};
+ghost use Rattle.sheet.specs.Signs.{order, turn, sideOfFigure, sideSign, orderRefusal, wideRefusal, turnRefusal, sideSignRefusal};
 ghost use Rattle.sheet.specs.Expansions.{orderX, orderY, det, turnA, turnC};
 ghost use Rattle.sheet.specs.Answers.{answer, signedSays};
 ghost use Rattle.kernel.specs.Forms.{pairSide};
 ghost use Rattle.kernel.specs.Bounds.{Coordinate, Row, NarrowSizes, Pair};
-
-// The first refusal of two.
-pub(crate) fn or_else(n: i64, m: i64) -> i64
-    ensures { λ r. ⌜ r ≡ orElse n m ⌝ }
-{
-    if n == 0 {
-        return m;
-    }
-    n
-}
 
 // ---- order
 
 // Of one coordinate, (m R + n)/w against (m2 R + n2)/w2.
 fn along(m: i64, n: i64, w: i64, m2: i64, n2: i64, w2: i64) -> i64
     requires { ⌜ Coordinate m n w × Coordinate m2 n2 w2 ⌝ }
-    ensures { λ r. ⌜ r ≡ first (sgn (m *ℤ w2 -ℤ m2 *ℤ w)) (sgn (n *ℤ w2 -ℤ n2 *ℤ w)) ⌝ }
+    ensures { λ r. ⌜ r ≡ orElse (sgn (m *ℤ w2 -ℤ m2 *ℤ w)) (sgn (n *ℤ w2 -ℤ n2 *ℤ w)) ⌝ }
 {
     let a = m * w2 - m2 * w;
     let b = n * w2 - n2 * w;
@@ -66,7 +57,7 @@ fn order_of(p: Point, q: Point) -> i64
 pub fn order_points(p: Point, q: Point) -> Signed
     ensures { λ r. ⌜ signedSays r ≡ answer (orderRefusal p q) (order p q ∷ []) ⌝ }
 {
-    let refusal = or_else(check_point(p), check_point(q));
+    let refusal = whole::or_else(check_point(p), check_point(q));
     if refusal != 0 {
         return Signed::Refused(refusal);
     }
@@ -134,14 +125,14 @@ fn wide_refusal(p: Point, q: Point, s: Point) -> i64
     if check_narrow(p) & check_narrow(q) & check_narrow(s) {
         return 0;
     }
-    6
+    WIDE_POINT
 }
 
 fn turn_refusal(p: Point, q: Point, s: Point) -> i64
     ensures { λ r. ⌜ r ≡ turnRefusal p q s ⌝ }
 {
-    let late = or_else(check_point(s), wide_refusal(p, q, s));
-    or_else(check_point(p), or_else(check_point(q), late))
+    let late = whole::or_else(check_point(s), wide_refusal(p, q, s));
+    whole::or_else(check_point(p), whole::or_else(check_point(q), late))
 }
 
 // The way that three narrow points turn: 1 to the left, -1 to the right, 0 straight.
@@ -212,7 +203,7 @@ fn side_sign(o: Object, s: Point) -> i64
 pub fn side_of(o: Object, s: Point) -> Signed
     ensures { λ r. ⌜ signedSays r ≡ answer (sideSignRefusal o s) (sideSign o s ∷ []) ⌝ }
 {
-    let refusal = or_else(sheet::object_refusal(o), check_point(s));
+    let refusal = whole::or_else(sheet::object_refusal(o), check_point(s));
     if refusal != 0 {
         return Signed::Refused(refusal);
     }

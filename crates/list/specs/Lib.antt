@@ -1,3 +1,5 @@
+-- what is to be believed
 pub mod Moving
+-- laws
 pub mod MovingLaws
 pub mod ReadingLaws

@@ -21,14 +21,14 @@ abbrev pub unwritten : ℕ
 unwritten = 51
 
 -- of a drawing with this refusal, where all went
-abbrev pub answered : ℤ → ℕ
-answered (pos zero) = listed
-answered (pos (suc n)) = refused
-answered (negsuc n) = refused
+abbrev pub statusAll : ℤ → ℕ
+statusAll (pos zero) = listed
+statusAll (pos (suc n)) = refused
+statusAll (negsuc n) = refused
 
-abbrev pub told : Bool → ℤ → ℕ
-told whole refusal = cond whole (answered refusal) unwritten
+abbrev pub statusOf : Bool → ℤ → ℕ
+statusOf whole refusal = cond whole (statusAll refusal) unwritten
 
 -- what may be told of a drawing with this refusal
-abbrev pub Tells : ℤ → ℕ → Type 0
-Tells refusal status = (status ≡ unwritten) ⊎ (status ≡ answered refusal)
+abbrev pub MayTell : ℤ → ℕ → Type 0
+MayTell refusal status = (status ≡ unwritten) ⊎ (status ≡ statusAll refusal)

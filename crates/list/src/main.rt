@@ -10,11 +10,9 @@ ghost use Rattle.sheet.specs.Limits.{most};
 ghost use Rattle.sheet.specs.Lists.{width, rowWidth};
 ghost use Rattle.store.specs.Stored.{longest, readDrawing};
 ghost use Rattle.rowtext.specs.Put.{rowMost};
-ghost use Rattle.list.specs.Moving.{told, Tells};
+ghost use Rattle.list.specs.Moving.{statusOf, MayTell};
 ghost use mathlib.Core.Bool.{true};
 
-// The bytes of the longest drawing: the count in two, and each object with its kind in one and four coordinates in two.
-const LONGEST: usize = 2 + Object::MOST * 9;
 // The numbers of the most objects.
 const NUMBERS: usize = Object::MOST * Object::WIDTH;
 // The others that an object can share something with.
@@ -69,7 +67,7 @@ fn of_most(n: usize) -> usize
 }
 
 fn status(whole: bool, refusal: i64) -> u8
-    ensures { λ r. ⌜ r ≡ told whole refusal ⌝ }
+    ensures { λ r. ⌜ r ≡ statusOf whole refusal ⌝ }
 {
     if !whole {
         return UNWRITTEN;
@@ -171,7 +169,7 @@ fn say_drawing(taken: bool, bytes: &[u8], got: usize) -> u8
     requires { ⌜ taken ≡ true ⌝ }
     requires { ⌜ length (now bytes) ≡ longest + 1 ⌝ }
     requires { ⌜ Counts got (now bytes) ⌝ }
-    ensures { λ r. ⌜ Tells (readDrawing (take got (now (bytes .entry))) .refusal) r ⌝ }
+    ensures { λ r. ⌜ MayTell (readDrawing (take got (now (bytes .entry))) .refusal) r ⌝ }
 {
     let mut list = [0i64; NUMBERS];
     let read = store::read_drawing(&bytes[..got], &mut list);
@@ -188,7 +186,7 @@ fn say_drawing(taken: bool, bytes: &[u8], got: usize) -> u8
 }
 
 fn main() {
-    let mut bytes = [0u8; LONGEST + 1];
+    let mut bytes = [0u8; store::LONGEST + 1];
     let taken = moving::read_bytes(&mut bytes);
     if !taken.whole {
         moving::tell(UNREAD);

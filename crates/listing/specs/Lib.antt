@@ -1,7 +1,8 @@
-pub mod InTurn
+-- what is to be believed
 pub mod Rows
 pub mod Listing
-pub mod InTurnLaws
+-- worked on them
+pub mod Worked
+-- laws
 pub mod RowsLaws
 pub mod ListingLaws
-pub mod Worked

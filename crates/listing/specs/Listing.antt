@@ -3,7 +3,7 @@
 use mathlib.Core.List.{List}
 use Prim.Native.Nat.{ℕ, _*_}
 use lib.IntN.{ℤ}
-use Rattle.sheet.specs.Signs.{orElse}
+use Rattle.whole.specs.Choice.{orElse}
 use Rattle.sheet.specs.Lent.{roomRefusal, otherNumber, lengthGiven}
 use Rattle.sheet.specs.Lists.{rowWidth, listRefusal, indexRefusal}
 use Rattle.listing.specs.declared.Listed.{Listed}

@@ -1,21 +1,81 @@
--- What a listing finds before it fills. To cite:
---   lacking, lacks-none, lacks  the length that is needed where the lent list is too short, else 0
+-- How a listing ends. To cite:
+--   lacking, lacks-none, lacks   the length that is needed where the lent list is too short, else 0;  has-room, has-none   what it tells
+--   Listing, listing-is          what the rows of accepted objects end with, and that it is what is said of a listing
+--   listing-refused              a listing that is refused before its rows are looked for
 -- Assumes nothing.
-use mathlib.Core.Path.{_≡_}
-use mathlib.Core.Bool.{cond}
-use Prim.Native.Nat.{ℕ, _*_, _≤_, _<_}
+use mathlib.Core.Path.{_≡_, refl, sym, ap, subst, _∙_}
+use mathlib.Core.Bool.{Bool, true, false, cond}
+use mathlib.Core.List.{List}
+use Prim.Native.Nat.{ℕ, _*_, _/_, _≤_, _<_}
 use native.Mathlib.Omega.{arith}
 use lib.Dec.{ltb}
-use borrow.Author.Tests.{lt-ltb, le-ltb}
+use lib.IntN.{ℤ, pos}
+use lib.ListN.{length}
+use mir.Syntax.{w64}
+use mir.Val.{ofZ}
+use borrow.Author.Tests.{lt-ltb, le-ltb, ltb-true, ltb-false}
+use Rattle.whole.specs.Tests.{Fit, out}
+use Rattle.sheet.specs.Lent.{roomRefusal, otherNumber, lengthGiven, filled}
+use Rattle.sheet.specs.LentLaws.{End, refused}
 use Rattle.sheet.specs.Lists.{rowWidth}
+use Rattle.listing.specs.declared.Listed.{Listed}
+use Rattle.listing.specs.Listing.{listed}
 
 abbrev pub lacking : ℕ → ℕ → ℕ
-lacking n room = cond (ltb room (n * rowWidth)) (n * rowWidth) 0
+lacking size room = cond (ltb room size) size 0
 
-module _ (n room : ℕ) where
-  pub lacks-none : n * rowWidth ≤ room → 0 ≡ lacking n room
-  lacks-none h = simp (le-ltb room (n * rowWidth) h)
+pub lacks-none : (size room : ℕ) → size ≤ room → 0 ≡ lacking size room
+lacks-none size room h = simp (le-ltb room size h)
 
-  -- the same length by the code
-  pub lacks : (m : ℕ) → m ≡ n * rowWidth → room < m → m ≡ lacking n room
-  lacks m e h = simp (lt-ltb room (n * rowWidth) (omega arith)) e
+pub lacks : (size room : ℕ) → room < size → size ≡ lacking size room
+lacks size room h = simp (lt-ltb room size h)
+
+-- what it tells
+pub has-room : (size room : ℕ) {m : ℕ} → m ≡ lacking size room → m ≡ 0 → size ≤ room
+has-room size room {m} e z = go (ltb room size) (ltb-false room size) e
+  where
+    go : (t : Bool) → (t ≡ false → size ≤ room) → m ≡ cond t size 0 → size ≤ room
+    go true f e = omega arith
+    go false f e = f refl
+
+pub has-none : (size room : ℕ) {m : ℕ} → m ≡ lacking size room → (m ≡ 0 → ⊥) → (room < size) × (m ≡ size)
+has-none size room {m} e d = go (ltb room size) (ltb-true room size) e
+  where
+    go : (t : Bool) → (t ≡ true → room < size) → m ≡ cond t size 0 → (room < size) × (m ≡ size)
+    go true f e = (f refl, e)
+    go false f e = absurd (d e)
+
+-- of a list that is not refused
+abbrev pub Listing : List ℤ → List ℤ → Listed → List ℤ → Type 0
+Listing rows lent a after = End (pos 0) rows lent (length rows) (length rows / rowWidth) (a .refusal) (a .length) (a .rows) after
+
+pub listing-is :
+    {r : ℤ} (n : ℕ) (rows : List ℤ) {lent after : List ℤ} {a : Listed} → r ≡ pos 0 → length rows ≡ n * rowWidth → Listing rows lent a after
+    → (a ≡ listed r n (length lent)) × (after ≡ filled r rows lent)
+listing-is {r} n rows {lent} {after} {a} z long e =
+    let count : length rows / rowWidth ≡ n = omega arith in (
+      (λ i. record {
+        refusal = e .refusal i;
+        rows = e .other i;
+        length = e .given i;
+      })
+          ∙ (λ i. record {
+            refusal = roomRefusal (sym z i) (long i) (length lent);
+            rows = otherNumber (roomRefusal (sym z i) (long i) (length lent)) (count i);
+            length = lengthGiven (sym z i) (long i);
+          }),
+      e .cells ∙ (λ i. filled (sym z i) rows lent),
+    )
+
+pub listing-refused :
+    {r v : ℤ} (n : ℕ) (rows lent : List ℤ) → length rows ≡ n * rowWidth → Fit v → v ≡ r → (ofZ w64 v ≡ 0 → ⊥)
+    → (record { refusal = out v; rows = 0; length = 0 } ≡ listed r n (length lent)) × (lent ≡ filled r rows lent)
+listing-refused {r} {v} n rows lent long f e d =
+    let x = refused {n = r} {result = rows} {lent = lent} {size = n * rowWidth} {v = n} f e d in (
+      λ i. record {
+        refusal = (x .refusal ∙ ap (λ (k : ℕ). roomRefusal r k (length lent)) long) i;
+        rows = (x .other ∙ ap (λ (k : ℕ). otherNumber (roomRefusal r k (length lent)) n) long) i;
+        length = x .given i;
+      },
+      x .cells,
+    )

@@ -7,16 +7,16 @@ use lib.IntN.{ℤ, pos}
 use lib.ListN.{replicate}
 use Rattle.whole.specs.Sign.{sgn}
 use Rattle.whole.specs.Divisor.{steps, gcd, gcdOf}
-use Rattle.sheet.specs.Figure.{sideOf, figure}
+use Rattle.sheet.specs.Figure.{sideOf, figureOf}
 use Rattle.sheet.specs.Refusal.{pairRefusal, sideRefusal, objectRefusal}
 use Rattle.sheet.specs.Points.{divided}
 use Rattle.sheet.specs.Ends.{farRaw, farEnd}
-use Rattle.sheet.specs.Crossing.{pieces, withSide, withPiece, meeting, crossingOf}
+use Rattle.sheet.specs.Crossing.{stretches, withSide, withStretch, meeting, crossingOf}
 use Rattle.sheet.specs.Answers.{objectNumbers}
 use Rattle.sheet.specs.Lent.{filled}
-use Rattle.sheet.specs.Lists.{firstRefusal, listRefusal}
+use Rattle.sheet.specs.Lists.{listRefusal}
 use Rattle.sheet.specs.Cases.{minus, object, segment, ray, line, side}
-use Rattle.listing.specs.InTurn.{inTurn}
+use Rattle.whole.specs.InTurn.{inTurn}
 use Rattle.listing.specs.Rows.{meetingOf, rowsWith, rowsOf, sharingWith, sharing}
 use Rattle.listing.specs.Listing.{oneRefusal, listed}
 
@@ -38,7 +38,7 @@ pub record WorkedListing : Type 0 where
   two-pairs : sharing objects ≡ 2
 
 pub worked-listing : WorkedListing
-unfolding inTurn firstRefusal listRefusal meetingOf pairRefusal sideRefusal objectRefusal pieces withSide withPiece meeting crossingOf sgn steps gcd gcdOf sideOf figure divided farRaw farEnd
+unfolding inTurn listRefusal meetingOf pairRefusal sideRefusal objectRefusal stretches withSide withStretch meeting crossingOf sgn steps gcd gcdOf sideOf figureOf divided farRaw farEnd
 worked-listing = record {
   not-refused = refl;
   two-rows = refl;
@@ -97,7 +97,7 @@ pub record WorkedListed : Type 0 where
   unchanged : (filled (listRefusal three) (rowsOf three) (lent 23) ≡ lent 23) × (filled (listRefusal tooFar) (rowsOf tooFar) (lent 26) ≡ lent 26)
 
 pub worked-listed : WorkedListed
-unfolding inTurn firstRefusal listRefusal meetingOf pairRefusal sideRefusal objectRefusal pieces withSide withPiece meeting crossingOf sgn steps gcd gcdOf sideOf figure divided farRaw farEnd
+unfolding inTurn listRefusal meetingOf pairRefusal sideRefusal objectRefusal stretches withSide withStretch meeting crossingOf sgn steps gcd gcdOf sideOf figureOf divided farRaw farEnd
 worked-listed = record {
   by-i-and-then-j = refl;
   many-row = refl;

@@ -1,21 +1,15 @@
 // The listing: a list of objects in, the rows of the pairs that share something out. A list is numbers, five an object.
-mod all;
-mod objects;
-mod rows;
+mod pairs; // pairs.rt: which pairs, in which order, and whether their rows have room
+mod rows; // rows.rt: what two objects share, and the row that tells it
 
-use crate::all::lacking_room;
-use crate::all::put_rows;
-use crate::objects::index_refusal;
-use crate::rows::lacking_with;
-use crate::rows::put_rows_with;
-use sheet::lists::ROW_WIDTH;
+use crate::pairs::list_pairs;
+use sheet::Object;
 use sheet::lists::list_refusal;
+use sheet::refusal::NO_OBJECT;
 ghost use mathlib.Core.Path.{_≡_};
-ghost use Prim.Native.Nat.{_/_};
-ghost use lib.IntN.{pos};
 ghost use lib.ListN.{length};
 ghost use Rattle.sheet.specs.Lent.{filled};
-ghost use Rattle.sheet.specs.Lists.{rowWidth, listRefusal};
+ghost use Rattle.sheet.specs.Lists.{listRefusal};
 ghost use Rattle.listing.specs.Rows.{rowsWith, rowsOf, sharingWith, sharing};
 ghost use Rattle.listing.specs.Listing.{oneRefusal, listed};
 
@@ -26,26 +20,18 @@ pub struct Listed {
     pub length: usize,
 }
 
-// The answer of a refused call, with the length needed for refusal 10, else 0.
-fn refuse(no: i64, needed: usize) -> Listed
-    ensures { λ r. ⌜ r ≡ record { refusal = no; rows = 0; length = needed } ⌝ }
+// The refusal of a list, and then of an index, 13; 0 for none.
+fn index_refusal(list: &[i64], i: usize) -> i64
+    ensures { λ r. ⌜ r ≡ oneRefusal (now (list .entry)) i ⌝ }
 {
-    Listed {
-        refusal: no,
-        rows: 0,
-        length: needed,
+    let no = list_refusal(list);
+    if no != 0 {
+        return no;
     }
-}
-
-// The answer of an accepted call that filled so many numbers.
-fn accept(filled: usize) -> Listed
-    ensures { λ r. ⌜ r ≡ record { refusal = pos 0; rows = filled / rowWidth; length = filled } ⌝ }
-{
-    Listed {
-        refusal: 0,
-        rows: filled / ROW_WIDTH,
-        length: filled,
+    if i < list.len() / Object::WIDTH {
+        return 0;
     }
+    NO_OBJECT
 }
 
 // The rows of object i with all later ones, at the front of a lent list.
@@ -53,15 +39,15 @@ pub fn list_one(list: &[i64], i: usize, out: &mut [i64]) -> Listed
     ensures answer { λ r. ⌜ r ≡ listed (oneRefusal (now (list .entry)) i) (sharingWith (now (list .entry)) i) (length (now (out .entry))) ⌝ }
     ensures rows { λ r. ⌜ now (out .exit) ≡ filled (oneRefusal (now (list .entry)) i) (rowsWith (now (list .entry)) i) (now (out .entry)) ⌝ }
 {
-    let no = index_refusal(list, i);
-    if no != 0 {
-        return refuse(no, 0);
+    let refusal = index_refusal(list, i);
+    if refusal != 0 {
+        return Listed {
+            refusal,
+            rows: 0,
+            length: 0,
+        };
     }
-    let need = lacking_with(list, i, out.len());
-    if need != 0 {
-        return refuse(10, need);
-    }
-    accept(put_rows_with(list, i, out, 0))
+    list_pairs(list, i, i + 1, out)
 }
 
 // The rows of all pairs, by i and then j, at the front of a lent list.
@@ -69,13 +55,13 @@ pub fn list_all(list: &[i64], out: &mut [i64]) -> Listed
     ensures answer { λ r. ⌜ r ≡ listed (listRefusal (now (list .entry))) (sharing (now (list .entry))) (length (now (out .entry))) ⌝ }
     ensures rows { λ r. ⌜ now (out .exit) ≡ filled (listRefusal (now (list .entry))) (rowsOf (now (list .entry))) (now (out .entry)) ⌝ }
 {
-    let no = list_refusal(list);
-    if no != 0 {
-        return refuse(no, 0);
+    let refusal = list_refusal(list);
+    if refusal != 0 {
+        return Listed {
+            refusal,
+            rows: 0,
+            length: 0,
+        };
     }
-    let need = lacking_room(list, out.len());
-    if need != 0 {
-        return refuse(10, need);
-    }
-    accept(put_rows(list, out))
+    list_pairs(list, 0, list.len() / Object::WIDTH, out)
 }

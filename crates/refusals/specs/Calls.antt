@@ -1,5 +1,7 @@
 -- Something said of the number that each public call refuses by, 0 where it does not refuse: whatever it is called with, of any answer that
--- meets its contract (`Post`). The calls that never refuse have no line: sign, size and gcd of `whole`, start and open_reader of `store`.
+-- meets its contract (`Post`). The calls that never refuse have no line: those of `whole` and `decimal`, a
+-- given point, a corner, the reach test, an object of a list and what is put into lent cells of `sheet`, put_number of `number`, start and
+-- open_reader of `store`.
 use mathlib.Core.Path.{_≡_}
 use mathlib.Core.Bool.{cond}
 use mathlib.Core.List.{List}
@@ -17,32 +19,29 @@ use Rattle.sheet.specs.declared.Signed.{Signed}
 use Rattle.sheet.specs.declared.Crossing.{Crossing}
 use Rattle.sheet.specs.Points.{within}
 use Rattle.sheet.specs.Answers.{refusalIn, madeSays, endsSay, signedSays, crossingSays}
+use Rattle.number.specs.declared.Number.{Number}
 use Rattle.store.specs.declared.Read.{Read}
 use Rattle.store.specs.declared.Written.{Written}
-use Rattle.store.specs.declared.Place as reader
-use Rattle.store.specs.declared.Item.{Item}
+use Rattle.store.specs.declared.Bookmark.{Bookmark}
 use Rattle.store.specs.declared.Stepped.{Stepped}
 use Rattle.store.specs.declared.Reader.{Reader}
 use Rattle.store.specs.declared.Taken.{Taken}
 use Rattle.store.specs.Reader.{itemSays}
 use Rattle.listing.specs.declared.Listed.{Listed}
 use Rattle.rowtext.specs.declared.Put.{Put}
-use Rattle.screen.specs.declared.Place.{Place}
+use Rattle.screen.specs.declared.OnScreen.{OnScreen}
 use Rattle.screen.specs.declared.Boxed.{Boxed}
 use Rattle.screen.specs.Places.{placeSays}
-use Rattle.screen.specs.Extents.{boxedSays}
-use Rattle.measure.specs.declared.Shown.{Shown}
+use Rattle.screen.specs.Boxes.{boxedSays}
+use Rattle.trial.specs.declared.SixNumbers.{SixNumbers}
 use Rattle.spot.specs.declared.TwoEnds.{TwoEnds}
 use Rattle.spot.specs.declared.Answer.{Answer}
 use Rattle.sheet.proofs.Object.segment.Reads as segment
 use Rattle.sheet.proofs.Object.ray.Reads as ray
 use Rattle.sheet.proofs.Object.line.Reads as line
 use Rattle.sheet.proofs.Object.side.Reads as side
-use Rattle.sheet.proofs.pair_refusal.Reads as pair-refusal
-use Rattle.sheet.proofs.side_refusal.Reads as side-refusal
 use Rattle.sheet.proofs.object_refusal.Reads as object-refusal
 use Rattle.sheet.proofs.lists.list_refusal.Reads as list-refusal
-use Rattle.kernel.proofs.points.check_object.Reads as check-object
 use Rattle.kernel.proofs.points.check_point.Reads as check-point
 use Rattle.kernel.proofs.ends.ends_of.Reads as ends-of
 use Rattle.kernel.proofs.signs.order_points.Reads as order-points
@@ -54,7 +53,7 @@ use Rattle.store.proofs.check_drawing.Reads as check-drawing
 use Rattle.store.proofs.read_drawing.Reads as read-drawing
 use Rattle.store.proofs.write_drawing.Reads as write-drawing
 use Rattle.store.proofs.step.Reads as step
-use Rattle.store.proofs.first.Reads as first
+use Rattle.number.proofs.read_number.Reads as read-number
 use Rattle.store.proofs.next as next
 use Rattle.store.proofs.ReaderPosts.{NextPost}
 use Rattle.listing.proofs.list_one.Reads as list-one
@@ -64,14 +63,14 @@ use Rattle.rowtext.proofs.put_objects.Reads as put-objects
 use Rattle.rowtext.proofs.put_count.Reads as put-count
 use Rattle.rowtext.proofs.put_refused.Reads as put-refused
 use Rattle.screen.proofs.places.place_of.Reads as place-of
-use Rattle.screen.proofs.extents.box_of.Reads as box-of
+use Rattle.screen.proofs.boxes.box_of.Reads as box-of
 use Rattle.viewer.proofs.silvanelga_check.Reads as viewer-check
 use Rattle.viewer.proofs.silvanelga_side.Reads as viewer-side
-use Rattle.measure.proofs.silvanelga_measure_list.Reads as measure-list
-use Rattle.measure.proofs.silvanelga_measure_read.Reads as measure-read
-use Rattle.measure.proofs.silvanelga_measure_write.Reads as measure-write
-use Rattle.measure.proofs.silvanelga_measure_place.Reads as measure-place
-use Rattle.measure.proofs.silvanelga_measure_box.Reads as measure-box
+use Rattle.trial.proofs.silvanelga_trial_list.Reads as trial-list
+use Rattle.trial.proofs.silvanelga_trial_read.Reads as trial-read
+use Rattle.trial.proofs.silvanelga_trial_write.Reads as trial-write
+use Rattle.trial.proofs.silvanelga_trial_place.Reads as trial-place
+use Rattle.trial.proofs.silvanelga_trial_box.Reads as trial-box
 use Rattle.spot.proofs.silvanelga_spot_ends.Reads as spot-ends
 use Rattle.spot.proofs.silvanelga_spot_order.Reads as spot-order
 use Rattle.spot.proofs.silvanelga_spot_side.Reads as spot-side
@@ -95,12 +94,9 @@ pub record Calls (P : ℤ → Type 0) : Type 0 where
   pub of-ray : (κs : Lfts 0) (a : Four) (r : Made) → ray.Post κs a r a → P (refusalIn (madeSays r))
   pub of-line : (κs : Lfts 0) (a : Four) (r : Made) → line.Post κs a r a → P (refusalIn (madeSays r))
   pub of-side : (κs : Lfts 0) (n : ℤ) (r : Made) → side.Post κs (n, tt) r (n, tt) → P (refusalIn (madeSays r))
-  pub of-pair-refusal : (κs : Lfts 0) (a : Four) (r : ℤ) → pair-refusal.Post κs a r a → P r
-  pub of-side-refusal : (κs : Lfts 0) (a : Four) (r : ℤ) → side-refusal.Post κs a r a → P r
   pub of-object-refusal : (κs : Lfts 0) (o : Object) (r : ℤ) → object-refusal.Post κs (o, tt) r (o, tt) → P r
   pub of-list-refusal : (κs : Lfts 1) (l : RefT (List ℤ)) (r : ℤ) → list-refusal.Post κs (l, tt) r (l, tt) → P r
   -- kernel: checks, ends, signs, crossing
-  pub of-check-object : (κs : Lfts 0) (o : Object) (r : ℤ) → check-object.Post κs (o, tt) r (o, tt) → P r
   pub of-check-point : (κs : Lfts 0) (p : Point) (r : ℤ) → check-point.Post κs (p, tt) r (p, tt) → P r
   pub of-ends-of : (κs : Lfts 0) (o : Object) (r : Ends) → ends-of.Post κs (o, tt) r (o, tt) → P (refusalIn (endsSay r))
   pub of-order-points : (κs : Lfts 0) (p q : Point) (r : Signed) → order-points.Post κs (p, (q, tt)) r (p, (q, tt)) → P (refusalIn (signedSays r))
@@ -110,16 +106,17 @@ pub record Calls (P : ℤ → Type 0) : Type 0 where
   pub of-side-of-circle : (κs : Lfts 0) (p q s u : Point) (r : Signed)
       → side-of-circle.Post κs (p, (q, (s, (u, tt)))) r (p, (q, (s, (u, tt)))) → P (refusalIn (signedSays r))
   pub of-cross : (κs : Lfts 0) (a b : Object) (r : Crossing) → cross.Post κs (a, (b, tt)) r (a, (b, tt)) → P (refusalIn (crossingSays r))
+  -- number: a stored number
+  pub of-read-number : (κs : Lfts 1) (bytes : RefT (List ℕ)) (r : Number) → read-number.Post κs (bytes, tt) r (bytes, tt) → P (r .refusal)
   -- store: drawings checked, read and written, and read one object a call
   pub of-check-drawing : (κs : Lfts 1) (bytes : RefT (List ℕ)) (r : ℤ) → check-drawing.Post κs (bytes, tt) r (bytes, tt) → P r
   pub of-read-drawing : (κs : Lfts 2) (bytes : RefT (List ℕ)) (out after : RefT (List ℤ)) (r : Read)
       → read-drawing.Post κs (bytes, (out, tt)) r (bytes, (after, tt)) → P (r .refusal)
   pub of-write-drawing : (κs : Lfts 2) (list : RefT (List ℤ)) (out after : RefT (List ℕ)) (r : Written)
       → write-drawing.Post κs (list, (out, tt)) r (list, (after, tt)) → P (r .refusal)
-  pub of-step : (κs : Lfts 1) (bytes : RefT (List ℕ)) (place : reader.Place) (r : Stepped)
+  pub of-step : (κs : Lfts 1) (bytes : RefT (List ℕ)) (place : Bookmark) (r : Stepped)
       → step.Post κs (bytes, (place, tt)) r (bytes, (place, tt)) → P (refusalIn (itemSays (r .item)))
   pub of-next : (κs : Lfts 1) (reader : Reader) (r : Taken) (e : AtExit next.ended κs) → NextPost κs reader r e → P (refusalIn (itemSays (r .item)))
-  pub of-first : (κs : Lfts 1) (bytes : RefT (List ℕ)) (r : Item) → first.Post κs (bytes, tt) r (bytes, tt) → P (refusalIn (itemSays r))
   -- listing: rows of one object, and of all pairs
   pub of-list-one : (κs : Lfts 2) (list : RefT (List ℤ)) (i : ℕ) (out after : RefT (List ℤ)) (r : Listed)
       → list-one.Post κs (list, (i, (out, tt))) r (list, (i, (after, tt))) → P (r .refusal)
@@ -135,20 +132,20 @@ pub record Calls (P : ℤ → Type 0) : Type 0 where
   pub of-put-refused : (κs : Lfts 1) (n : ℤ) (out after : RefT (List ℕ)) (r : Put)
       → put-refused.Post κs (n, (out, tt)) r (n, (after, tt)) → P (r .refusal)
   -- screen: places and boxes
-  pub of-place-of : (κs : Lfts 0) (p : Point) (r : Place) → place-of.Post κs (p, tt) r (p, tt) → P (refusalIn (placeSays r .wholes))
+  pub of-place-of : (κs : Lfts 0) (p : Point) (r : OnScreen) → place-of.Post κs (p, tt) r (p, tt) → P (refusalIn (placeSays r .wholes))
   pub of-box-of : (κs : Lfts 1) (l : RefT (List ℤ)) (r : Boxed) → box-of.Post κs (l, tt) r (l, tt) → P (refusalIn (boxedSays r .wholes))
   -- viewer: the calls for C
   pub of-viewer-check : (κs : Lfts 1) (bytes : RefT (List ℕ)) (r : ℤ) → viewer-check.Post κs (bytes, tt) r (bytes, tt) → P r
   pub of-viewer-side : (κs : Lfts 1) (bytes : RefT (List ℕ)) (i x y r : ℤ)
       → viewer-side.Post κs (bytes, (i, (x, (y, tt)))) r (bytes, (i, (x, (y, tt)))) → P (sideRefusalIn r)
-  -- measure: the calls for bench/ and tests/
-  pub of-measure-list : (κs : Lfts 2) (list out after : RefT (List ℤ)) (r : ℤ) → measure-list.Post κs (list, (out, tt)) r (list, (after, tt)) → P r
-  pub of-measure-read : (κs : Lfts 2) (bytes : RefT (List ℕ)) (out after : RefT (List ℤ)) (r : ℤ)
-      → measure-read.Post κs (bytes, (out, tt)) r (bytes, (after, tt)) → P r
-  pub of-measure-write : (κs : Lfts 2) (list : RefT (List ℤ)) (out after : RefT (List ℕ)) (r : ℤ)
-      → measure-write.Post κs (list, (out, tt)) r (list, (after, tt)) → P r
-  pub of-measure-place : (κs : Lfts 0) (a : Five) (r : Shown) → measure-place.Post κs a r a → P (r .refusal)
-  pub of-measure-box : (κs : Lfts 1) (l : RefT (List ℤ)) (r : Shown) → measure-box.Post κs (l, tt) r (l, tt) → P (r .refusal)
+  -- trial: the calls for bench/ and tests/
+  pub of-trial-list : (κs : Lfts 2) (list out after : RefT (List ℤ)) (r : ℤ) → trial-list.Post κs (list, (out, tt)) r (list, (after, tt)) → P r
+  pub of-trial-read : (κs : Lfts 2) (bytes : RefT (List ℕ)) (out after : RefT (List ℤ)) (r : ℤ)
+      → trial-read.Post κs (bytes, (out, tt)) r (bytes, (after, tt)) → P r
+  pub of-trial-write : (κs : Lfts 2) (list : RefT (List ℤ)) (out after : RefT (List ℕ)) (r : ℤ)
+      → trial-write.Post κs (list, (out, tt)) r (list, (after, tt)) → P r
+  pub of-trial-place : (κs : Lfts 0) (a : Five) (r : SixNumbers) → trial-place.Post κs a r a → P (r .refusal)
+  pub of-trial-box : (κs : Lfts 1) (l : RefT (List ℤ)) (r : SixNumbers) → trial-box.Post κs (l, tt) r (l, tt) → P (r .refusal)
   -- spot: the calls for tests/spot_check.c and tests/circle.c
   pub of-spot-ends : (κs : Lfts 0) (o : Object) (r : TwoEnds) → spot-ends.Post κs (o, tt) r (o, tt) → P (r .refusal)
   pub of-spot-order : (κs : Lfts 0) (p q : Point) (r : Answer) → spot-order.Post κs (p, (q, tt)) r (p, (q, tt)) → P (r .refusal)

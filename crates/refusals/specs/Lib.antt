@@ -1,3 +1,6 @@
+-- what is to be believed
 pub mod Calls
-pub mod Refusals
+-- worked on them
 pub mod Worked
+-- laws
+pub mod Refusals

@@ -15,7 +15,7 @@ use contract.Lifetimes.{Lfts}
 use denote.Ref.{RefT}
 use Rattle.whole.specs.Flag.{eqZ}
 use Rattle.whole.specs.Ring.{var, lit, _⊕_, _⊖_, ring}
-use Rattle.whole.specs.Bound.{Within}
+use Rattle.whole.specs.Within.{Within}
 use Rattle.whole.specs.Order.{lt-intro}
 use Rattle.whole.specs.Tests.{cond-by, eqZ-true, lt-ltZ}
 use Rattle.sheet.specs.declared.Object.{Object}
@@ -24,39 +24,40 @@ use Rattle.sheet.specs.declared.Crossing.the-variants as crossing
 use Rattle.sheet.specs.RefusalTable.{refusals, among, Known}
 use Rattle.sheet.specs.RefusalTableLaws.{one-of, one-among, not-one, known-or, known-pair, known-side, known-object, known-point, known-order, known-turn, known-side-sign, known-circle, known-crossing, known-list, known-index, known-room, refusal-in}
 use Rattle.sheet.specs.Points.{standard, pointRefusal}
-use Rattle.sheet.specs.Signs.{orElse}
+use Rattle.whole.specs.Choice.{orElse}
 use Rattle.sheet.specs.Lists.{rowWidth, listRefusal, indexRefusal}
 use Rattle.sheet.specs.Answers.{answer, refusalIn, meetingNumbers}
-use Rattle.sheet.specs.AnswersLaws.{accepted}
+use Rattle.sheet.specs.AnswersLaws.{accepted, met-by}
 use Rattle.sheet.specs.AcceptsLaws.{cross-taken}
 use Rattle.sheet.specs.Crossing.{crossingOf, crossingRefusal}
 use Rattle.sheet.specs.CrossingLaws.{crossing-is-point}
-use Rattle.store.specs.declared.Place as reader
+use Rattle.store.specs.declared.Bookmark.{Bookmark}
 use Rattle.store.specs.declared.Item.{Item}
 use Rattle.store.specs.declared.Read.{Read}
 use Rattle.store.specs.declared.Stepped.{Stepped}
 use Rattle.store.specs.declared.Taken.{Taken}
 use Rattle.store.specs.declared.Written.{Written}
 use Rattle.store.specs.Refusals.{ofBytes}
-use Rattle.store.specs.Stored.{Reading, readDrawing, writeDrawing}
-use Rattle.store.specs.SureLaws.{Sure, sure-object, sure-count}
+use Rattle.store.specs.Stored.{plain, readDrawing, writeDrawing}
+use Rattle.number.specs.declared.Number.{Number}
+use Rattle.number.specs.Number.{Reading, readNumber, numberOf}
+use Rattle.store.specs.SureLaws.{Sure, Any, sure-number, sure-object, sure-count}
 use Rattle.store.specs.SureLaws as sure
-use Rattle.store.specs.Reader.{stepObject, stepFrom, stepCounted, stepOf, callFrom, itemSays}
+use Rattle.store.specs.Reader.{stepObject, stepFrom, stepCounted, stepOf, itemSays}
 use Rattle.store.specs.Answers.{readAnswer, writeAnswer}
 use Rattle.listing.specs.declared.Listed.{Listed}
 use Rattle.listing.specs.Rows.{sharingWith, sharing}
 use Rattle.listing.specs.Listing.{oneRefusal}
-use Rattle.listing.specs.RowsLaws.{met-by}
 use Rattle.rowtext.specs.declared.Put.{Put}
 use Rattle.rowtext.specs.Text.{objectsWord, rowsWord, refusedWord, rowsText, countLine}
 use Rattle.rowtext.specs.Put.{rowsRefusal}
-use Rattle.screen.specs.Told.{Told, answered}
+use Rattle.screen.specs.Values.{Values, floatAnswer}
 use Rattle.screen.specs.Places.{placeOf}
-use Rattle.measure.specs.declared.Shown.{Shown}
+use Rattle.trial.specs.declared.SixNumbers.{SixNumbers}
 use Rattle.spot.specs.declared.TwoEnds.{TwoEnds}
 use Rattle.spot.specs.declared.Answer.{Answer}
-use Rattle.viewer.specs.Answered.{ofSide, Answered, a-sign, a-refusal}
-use Rattle.viewer.specs.AnsweredLaws.{side-answers}
+use Rattle.viewer.specs.SideIs.{ofSide, SideIs, a-sign, a-refusal}
+use Rattle.viewer.specs.SideIsLaws.{side-answers}
 use Rattle.viewer.specs.Calls.{sideAnswer}
 use Rattle.viewer.specs.ReadingLaws.{bytes-refusal}
 use Rattle.kernel.proofs.crossing.cross.Reads as cross
@@ -72,15 +73,15 @@ known-answer : {said : List ℤ} (n : ℤ) (values : List ℤ) → Known n → s
 known-answer n values k e = known-shown n values k (ap refusalIn e)
 
 -- with floats
-told-refusal : (n : ℤ) (t : Told) → refusalIn (t .wholes) ≡ pos 0 → refusalIn (answered n t .wholes) ≡ n
-told-refusal n t h = cond-by (λ (u : Told). refusalIn (u .wholes) ≡ n) (eqZ n (pos 0)) (λ e. h ∙ sym (eqZ-true e)) (λ e. refl)
+told-refusal : (n : ℤ) (t : Values) → refusalIn (t .wholes) ≡ pos 0 → refusalIn (floatAnswer n t .wholes) ≡ n
+told-refusal n t h = cond-by (λ (u : Values). refusalIn (u .wholes) ≡ n) (eqZ n (pos 0)) (λ e. h ∙ sym (eqZ-true e)) (λ e. refl)
 
-known-told : {said : Told} (n : ℤ) (t : Told) → Known n → refusalIn (t .wholes) ≡ pos 0 → said ≡ answered n t → Known (refusalIn (said .wholes))
-known-told n t k h e = subst Known (sym (ap (λ (u : Told). refusalIn (u .wholes)) e ∙ told-refusal n t h)) k
+known-told : {said : Values} (n : ℤ) (t : Values) → Known n → refusalIn (t .wholes) ≡ pos 0 → said ≡ floatAnswer n t → Known (refusalIn (said .wholes))
+known-told n t k h e = subst Known (sym (ap (λ (u : Values). refusalIn (u .wholes)) e ∙ told-refusal n t h)) k
 
 place-told : (p : Point) → refusalIn (placeOf p .wholes) ≡ pos 0
 unfolding placeOf
-place-told p = cond-by (λ (t : Told). refusalIn (t .wholes) ≡ pos 0) (standard p) (λ e. refl) (λ e. refl)
+place-told p = cond-by (λ (t : Values). refusalIn (t .wholes) ≡ pos 0) (standard p) (λ e. refl) (λ e. refl)
 
 -- ---- with lent cells
 
@@ -111,26 +112,33 @@ known-written : {z : ℤ} (l : List ℤ) (lent : RefT (List ℕ)) → z ≡ writ
 unfolding writeAnswer
 known-written l lent e = known-lent _ (short lent (length (writeDrawing l))) (known-list l) e
 
+number-known : (bs : List ℕ) → Known (numberOf bs (readNumber bs) .refusal)
+number-known bs = go (sure-number bs)
+  where
+    go : {r : Reading ℕ} → Sure Any bs r → Known (numberOf bs r .refusal)
+    go (sure.read n front rest e h) = one-of 0 refl
+    go (sure.refused n e) = one-among ofBytes _ refl (one-of n e)
+
 -- ---- a reader's calls
 
 abbrev ItemKnown : Item → Type 0
 ItemKnown i = Known (refusalIn (itemSays i))
 
-item-object : (bs : List ℕ) (p : reader.Place) (left : ℕ) {P : Object → Type 0} {from : List ℕ} {r : Reading Object} → Sure P from r
+item-object : (bs : List ℕ) (p : Bookmark) (left : ℕ) {P : Object → Type 0} {from : List ℕ} {r : Reading Object} → Sure P from r
     → ItemKnown (stepObject bs p left r .item)
 item-object bs p left (sure.read o front rest e h) = one-of 0 refl
 item-object bs p left (sure.refused n e) = one-among ofBytes _ refl (one-of n e)
 
-item-from : (bs : List ℕ) (p : reader.Place) (left at : ℕ) → ItemKnown (stepFrom bs p left at .item)
+item-from : (bs : List ℕ) (p : Bookmark) (left at : ℕ) → ItemKnown (stepFrom bs p left at .item)
 unfolding stepFrom
 item-from bs p zero at = cond-by ItemKnown (ltb at (length bs)) (λ e. one-of 9 refl) (λ e. one-of 0 refl)
-item-from bs p (suc left) at = item-object bs p left (sure-object (drop at bs))
+item-from bs p (suc left) at = item-object bs p left (sure-object plain (drop at bs))
 
-item-counted : (bs : List ℕ) (p : reader.Place) {P : ℕ → Type 0} {from : List ℕ} {r : Reading ℕ} → Sure P from r → ItemKnown (stepCounted bs p r .item)
+item-counted : (bs : List ℕ) (p : Bookmark) {P : ℕ → Type 0} {from : List ℕ} {r : Reading ℕ} → Sure P from r → ItemKnown (stepCounted bs p r .item)
 item-counted bs p (sure.read n front rest e h) = item-from bs p n _
 item-counted bs p (sure.refused n e) = one-among ofBytes _ refl (one-of n e)
 
-item-known : (bs : List ℕ) (p : reader.Place) → ItemKnown (stepOf bs p .item)
+item-known : (bs : List ℕ) (p : Bookmark) → ItemKnown (stepOf bs p .item)
 unfolding stepOf
 item-known bs p =
     cond-by (λ (s : Stepped). ItemKnown (s .item)) (p .begun) (λ e. item-from bs p (p .left) (p .at)) (λ e. item-counted bs p (sure-count bs))
@@ -154,7 +162,7 @@ refused-in (suc n) e =
 side-known : (bs : List ℕ) (i x y : ℤ) → Known (sideRefusalIn (sideAnswer bs i x y))
 side-known bs i x y = go (side-answers bs i x y)
   where
-    go : {r : ℤ} → Answered (readDrawing bs) i x y r → Known (sideRefusalIn r)
+    go : {r : ℤ} → SideIs (readDrawing bs) i x y r → Known (sideRefusalIn r)
     go (a-sign e f w) = subst Known (sym (sign-in _ w)) (one-of 0 refl)
     go (a-refusal o e) =
         subst (λ (z : ℤ). Known (sideRefusalIn z)) (sym (e ∙ ap (λ (z : ℤ). pos 100 +ℤ z) (o .is))) (refused-in (o .number) (o .one))
@@ -162,17 +170,13 @@ side-known bs i x y = go (side-answers bs i x y)
 -- ---- the calls
 
 calls : (P : ℤ → Type 0) → ((z : ℤ) → Known z → P z) → Calls P
-unfolding callFrom
 calls P f = record {
   of-segment = λ κs a r e. f _ (known-answer _ _ (known-pair _ _ _ _) e);
   of-ray = λ κs a r e. f _ (known-answer _ _ (known-pair _ _ _ _) e);
   of-line = λ κs a r e. f _ (known-answer _ _ (known-pair _ _ _ _) e);
   of-side = λ κs n r e. f _ (known-answer _ _ (known-side n (pos 0) (pos 0) (pos 0)) e);
-  of-pair-refusal = λ κs a r e. f _ (subst Known (sym e) (known-pair _ _ _ _));
-  of-side-refusal = λ κs a r e. f _ (subst Known (sym e) (known-side _ _ _ _));
   of-object-refusal = λ κs o r e. f _ (subst Known (sym (e .0)) (known-object o));
   of-list-refusal = λ κs l r e. f _ (subst Known (sym e) (known-list (l .now)));
-  of-check-object = λ κs o r e. f _ (subst Known (sym e) (known-object o));
   of-check-point = λ κs p r e. f _ (subst Known (sym e) (known-point p));
   of-ends-of = λ κs o r e. f _ (known-answer _ _ (known-object o) e);
   of-order-points = λ κs p q r e. f _ (known-answer _ _ (known-order p q) e);
@@ -180,12 +184,12 @@ calls P f = record {
   of-side-of-circle = λ κs p q s u r e. f _ (known-answer _ _ (known-circle p q s u) e);
   of-side-of = λ κs o s r e. f _ (known-answer _ _ (known-side-sign o s) e);
   of-cross = λ κs a b r e. f _ (known-answer _ _ (known-crossing a b) e);
+  of-read-number = λ κs bytes r e. f _ (subst Known (sym (ap (λ (x : Number). x .refusal) (e .0))) (number-known (bytes .now)));
   of-check-drawing = λ κs bytes r e. f _ (subst Known (sym e) (known-bytes (bytes .now)));
   of-read-drawing = λ κs bytes out after r e. f _ (known-read (bytes .now) out (ap (λ (x : Read). x .refusal) (e .0)));
   of-write-drawing = λ κs list out after r e. f _ (known-written (list .now) out (ap (λ (x : Written). x .refusal) (e .0)));
   of-step = λ κs bytes place r e. f _ (subst (λ (x : Stepped). ItemKnown (x .item)) (sym e) (item-known (bytes .now) place));
   of-next = λ κs reader r x e. f _ (subst (λ (t : Taken). ItemKnown (t .item)) (sym e) (item-known (reader .bytes .now) (reader .place)));
-  of-first = λ κs bytes r e. f _ (subst ItemKnown (sym e) (item-known (bytes .now) _));
   of-list-one = λ κs list i out after r e.
       f _ (known-lent _ (short out (sharingWith (list .now) i * rowWidth)) (known-one (list .now) i) (ap (λ (x : Listed). x .refusal) (e .0)));
   of-list-all = λ κs list out after r e.
@@ -202,11 +206,11 @@ calls P f = record {
   of-box-of = λ κs l r e. f _ (known-told _ _ (known-list (l .now)) refl e);
   of-viewer-check = λ κs bytes r e. f _ (subst Known (sym e) (known-bytes (bytes .now)));
   of-viewer-side = λ κs bytes i x y r e. f _ (subst (λ (z : ℤ). Known (sideRefusalIn z)) (sym e) (side-known (bytes .now) i x y));
-  of-measure-list = λ κs list out after r e. f _ (known-lent _ (short out (sharing (list .now) * rowWidth)) (known-list (list .now)) (e .0));
-  of-measure-read = λ κs bytes out after r e. f _ (known-read (bytes .now) out (e .0));
-  of-measure-write = λ κs list out after r e. f _ (known-written (list .now) out (e .0));
-  of-measure-place = λ κs a r e. f _ (subst Known (sym (ap (λ (x : Shown). x .refusal) e ∙ told-refusal _ _ (place-told _))) (known-point _));
-  of-measure-box = λ κs l r e. f _ (subst Known (sym (ap (λ (x : Shown). x .refusal) e ∙ told-refusal _ _ refl)) (known-list (l .now)));
+  of-trial-list = λ κs list out after r e. f _ (known-lent _ (short out (sharing (list .now) * rowWidth)) (known-list (list .now)) (e .0));
+  of-trial-read = λ κs bytes out after r e. f _ (known-read (bytes .now) out (e .0));
+  of-trial-write = λ κs list out after r e. f _ (known-written (list .now) out (e .0));
+  of-trial-place = λ κs a r e. f _ (subst Known (sym (ap (λ (x : SixNumbers). x .refusal) e ∙ told-refusal _ _ (place-told _))) (known-point _));
+  of-trial-box = λ κs l r e. f _ (subst Known (sym (ap (λ (x : SixNumbers). x .refusal) e ∙ told-refusal _ _ refl)) (known-list (l .now)));
   of-spot-ends = λ κs o r e. f _ (known-shown _ _ (known-object o) (ap (λ (x : TwoEnds). x .refusal) e));
   of-spot-order = λ κs p q r e. f _ (known-shown _ _ (known-order p q) (ap (λ (x : Answer). x .refusal) e));
   of-spot-side = λ κs o s r e. f _ (known-shown _ _ (known-side-sign o s) (ap (λ (x : Answer). x .refusal) e));

@@ -5,6 +5,7 @@ use mathlib.Core.List.{List, [], _∷_}
 use Prim.Native.Nat.{ℕ}
 use lib.IntN.{ℤ, pos}
 use lib.ListN.{replicate}
+use Rattle.whole.specs.InTurn.{inTurn}
 use Rattle.whole.specs.Sign.{sgn}
 use Rattle.whole.specs.Divisor.{steps, gcd, gcdOf}
 use Rattle.sheet.specs.declared.Object.{Object}
@@ -16,9 +17,10 @@ use Rattle.sheet.specs.Signs.{turnRefusal}
 use Rattle.sheet.specs.Circle.{isGiven, givenRefusal, circleRefusal}
 use Rattle.sheet.specs.Crossing.{crossingRefusal}
 use Rattle.sheet.specs.Answers.{objectNumbers}
-use Rattle.sheet.specs.Lists.{firstRefusal, listRefusal}
+use Rattle.sheet.specs.Lists.{listRefusal}
 use Rattle.sheet.specs.Cases.{minus, object, segment, side, point, at}
-use Rattle.store.specs.Stored.{readGroups, readCoordinate, readPoint, readSide, readTo, readPair, readShape, readObject, readObjects, readCount, readDrawing}
+use Rattle.store.specs.Stored.{readCoordinate, readPoint, readSide, readTo, readPair, readShape, readObject, readObjects, readCount, readDrawing}
+use Rattle.number.specs.Number.{readGroups}
 use Rattle.store.specs.Answers.{readAnswer}
 use Rattle.listing.specs.Listing.{oneRefusal}
 use Rattle.refusals.specs.Calls.{sideRefusalIn}
@@ -41,7 +43,7 @@ abbrev origin : Point
 origin = at (pos 0) (pos 0)
 
 pub each-met : EachMet refusals
-unfolding sgn steps gcd gcdOf pairRefusal sideRefusal objectRefusal standard narrow frame isPoint pointRefusal turnRefusal isGiven givenRefusal circleRefusal crossingRefusal firstRefusal listRefusal readGroups readCoordinate readPoint readSide readTo readPair readShape readObject readObjects readCount readDrawing readAnswer
+unfolding sgn steps gcd gcdOf pairRefusal sideRefusal objectRefusal standard narrow frame isPoint pointRefusal turnRefusal isGiven givenRefusal circleRefusal crossingRefusal inTurn listRefusal readGroups readCoordinate readPoint readSide readTo readPair readShape readObject readObjects readCount readDrawing readAnswer
 each-met =
     more (by-crossing (object (pos 5) (pos 0) (pos 0) (pos 1) (pos 1)) fine refl)
     (more (by-crossing fine (segment (pos 0) (pos 0) (pos 2001) (pos 1)) refl)

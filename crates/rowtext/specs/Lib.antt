@@ -1,6 +1,8 @@
+-- what is to be believed
 pub mod Text
 pub mod Put
-pub mod TextLaws
-pub mod WroteLaws
-pub mod PutLaws
+-- worked on them
 pub mod Example
+-- laws
+pub mod TextLaws
+pub mod PutLaws

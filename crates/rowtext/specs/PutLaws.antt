@@ -1,60 +1,52 @@
 -- Laws of what a call answers and leaves. To cite:
---   says-as      the text in other words
---   put-short    too few bytes: 10 and the length needed, and every byte as it was
---   put-done     enough, and the text was written from place 0 on: 0 and the place after it
+--   PutEnd, end-as     how a call that puts a text ends (sheet/specs/LentLaws has its three ends); the text in other words
+--   put-ends     what such an end answers, and what is in the bytes then
+--   clipped-given      a length that is answered is cut at the largest before a refusal makes it 0, or behind: it is the same
 --   no-rows, rows-taken   a list that is no list of rows is refused, and one that is is not
---   line-short, count-short   how long a line can be, and a count in it (a refusal's number: signed-short)
+--   line-short   how long a line can be, by its number (decimal's count-short, signed-short)
 --   line-said, rows-said   the length needed is answered as it is: of a line, and of a list of fewer than 2^59 numbers
 -- Assumes nothing.
-use mathlib.Core.Path.{_≡_, sym, _∙_, ap, subst}
+use mathlib.Core.Path.{_≡_, refl, sym, subst}
+use mathlib.Core.Bool.{Bool, true, false, cond}
 use mathlib.Core.List.{List}
 use Prim.Native.Nat.{ℕ, _%_, _^_, _≤_, _<_}
-use native.Mathlib.Nat.{zero-add}
 use native.Mathlib.Omega.{arith}
 use lib.IntN.{ℤ, pos}
 use lib.ListN.{length, length-append}
-use borrow.Author.Tests.{lt-ltb, le-ltb, eq-eqb, ne-eqb}
-use Rattle.whole.specs.Tests.{eq-eqZ}
+use borrow.Author.Tests.{eq-eqb, ne-eqb}
+use Rattle.whole.specs.Flag.{eqZ}
+use Rattle.sheet.specs.Lent.{lengthGiven, filled, clipped}
+use Rattle.sheet.specs.LentLaws.{End, clipped-is}
 use Rattle.sheet.specs.Lists.{rowWidth}
+use Rattle.decimal.specs.Decimal.{signed, numberMost}
+use Rattle.decimal.specs.DecimalLaws.{AllFit}
 use Rattle.rowtext.specs.declared.Put.{Put}
-use Rattle.rowtext.specs.Text.{signed, rowsOf, rowsText, countLine}
-use Rattle.rowtext.specs.TextLaws.{Fit, signed-pos, digits-short, rows-short}
-use Rattle.rowtext.specs.Put.{said, numberMost, lineMost, rowsRefusal, Says, Wrote}
-use Rattle.rowtext.specs.WroteLaws.{said-is, said-no-more, Saying, whole, cut, saying, wrote-front}
+use Rattle.rowtext.specs.Text.{rowsOf, rowsText, countLine}
+use Rattle.rowtext.specs.TextLaws.{rows-short}
+use Rattle.rowtext.specs.Put.{lineMost, rowsRefusal, putAnswer}
 
-pub says-as : {n : ℤ} {text other d e : List ℕ} {r : Put} → Says n text d r e → text ≡ other → Says n other d r e
-says-as {n} {text} {other} {d} {e} {r} s q = subst (λ (t : List ℕ). Says n t d r e) q s
+-- a call that puts a text has answered r and left `after` in the lent bytes: it has no other number
+abbrev pub PutEnd : ℤ → List ℕ → List ℕ → Put → List ℕ → Type 0
+PutEnd n text lent r after = End n text lent (clipped (length text)) 0 (r .refusal) (r .length) 0 after
 
--- what was put into no bytes, or into any others, tells the length
-length-is : {d e text : List ℕ} {n : ℕ} → Wrote d e 0 n text → n ≡ said (length text)
-length-is {d} {e} {text} w = w .place ∙ ap said (zero-add (length text))
+pub end-as : {n : ℤ} {text other lent after : List ℕ} {r : Put} → PutEnd n text lent r after → text ≡ other → PutEnd n other lent r after
+end-as {n} {text} {other} {lent} {after} {r} e q = subst (λ (t : List ℕ). PutEnd n t lent r after) q e
 
-module _ {n : ℤ} {text other left : List ℕ} {size : ℕ} (e : n ≡ pos 0) (counted : Wrote other left 0 size text) where
-  pub put-short : (d : List ℕ) → length d < size → Says n text d (record { refusal = pos 10; length = size }) d
-  put-short d h =
-      let short = lt-ltb (length d) (length text) (omega (arith, length-is counted, said-no-more (length text))) in
-      record { answer = simp (eq-eqZ e, short, length-is counted); bytes = simp (eq-eqZ e, short) }
+pub put-ends : {n : ℤ} {text lent after : List ℕ} {r : Put} → PutEnd n text lent r after → (r ≡ putAnswer n text lent) × (after ≡ filled n text lent)
+put-ends e = ((λ i. record { refusal = e .refusal i; length = e .given i }), e .cells)
 
-  pub put-done : {d after : List ℕ} {next : ℕ} → size ≤ length d → Wrote d after 0 next text
-      → Says n text d (record { refusal = pos 0; length = next }) after
-  put-done {d} {after} {next} h w =
-      let enough = le-ltb (length d) (length text) fits in
-      record { answer = simp (eq-eqZ e, enough, length-is w); bytes = simp (eq-eqZ e, enough) (wrote-front w fits) }
-    where
-      go : Saying (length text) → length text ≤ length d
-      go (whole m q) = omega (arith, length-is counted)
-      go (cut m q) = absurd (omega (arith, length-is counted, w .lent))
-
-      fits : length text ≤ length d
-      fits = go (saying (length text))
+pub clipped-given : (n : ℤ) (size : ℕ) → clipped (lengthGiven n size) ≡ lengthGiven n (clipped size)
+clipped-given n size = go (eqZ n (pos 0))
+  where
+    go : (t : Bool) → clipped (cond t size 0) ≡ cond t (clipped size) 0
+    go true = refl
+    go false = clipped-is (omega arith)
 
 -- ---- rows
 
 module _ (l : List ℤ) where
-  pub no-rows : (d : List ℕ) → (length l % rowWidth ≡ 0 → ⊥) → Says (rowsRefusal l) (rowsText l) d (record { refusal = pos 14; length = 0 }) d
-  no-rows d n =
-      let z = ne-eqb (length l % rowWidth) 0 n in
-      record { answer = simp z (ap (λ (k : ℕ). record { refusal = pos 14; length = k }) (sym (said-is (omega arith)))); bytes = simp z }
+  pub no-rows : (length l % rowWidth ≡ 0 → ⊥) → pos 14 ≡ rowsRefusal l
+  no-rows n = sym (simp (ne-eqb (length l % rowWidth) 0 n))
 
   pub rows-taken : length l % rowWidth ≡ 0 → rowsRefusal l ≡ pos 0
   rows-taken z = simp (eq-eqb (length l % rowWidth) 0 z)
@@ -65,14 +57,11 @@ module _ (l : List ℤ) where
 pub line-short : (word : List ℕ) (z : ℤ) → length word ≤ 7 → length (signed z) ≤ numberMost → length (countLine word z) ≤ lineMost
 line-short word z h m = simp length-append (omega arith)
 
-pub count-short : (n : ℕ) → n < 2 ^ 64 → length (signed (pos n)) ≤ numberMost
-count-short n h = simp (signed-pos n) (digits-short n h)
-
 pub line-said : (word : List ℕ) (z : ℤ) → length word ≤ 7 → length (signed z) ≤ numberMost
-    → said (length (countLine word z)) ≡ length (countLine word z)
-line-said word z h m = said-is (omega (arith, line-short word z h m))
+    → clipped (length (countLine word z)) ≡ length (countLine word z)
+line-said word z h m = clipped-is (omega (arith, line-short word z h m))
 
 -- a list of 2^59 numbers is 2^62 bytes long
-pub rows-said : (l : List ℤ) → Fit l → length l < 2 ^ 59 → said (length (rowsText l)) ≡ length (rowsText l)
+pub rows-said : (l : List ℤ) → AllFit l → length l < 2 ^ 59 → clipped (length (rowsText l)) ≡ length (rowsText l)
 unfolding rowsText
-rows-said l f h = said-is (omega (arith, rows-short l (rowsOf l) f))
+rows-said l f h = clipped-is (omega (arith, rows-short l (rowsOf l) f))

@@ -1,18 +1,28 @@
 // The text that the listing program prints, put into lent bytes: rows, and lines with a count or a refusal. The definitions are in
-// specs/Text.antt, what a call answers in specs/Put.antt.
+// specs/Text.antt, what a call answers in specs/Put.antt, words and numbers in decimal.
 //
 // Each text is put twice by the same functions: into no bytes, which gives its length, and then, where it fits, into the lent ones.
+use decimal::put_fields;
+use decimal::put_number;
+use decimal::put_sized;
+use decimal::put_text;
+use sheet::lent::put_byte;
 use sheet::lists::ROW_WIDTH;
+use sheet::lists::SHARE_WIDTH;
+use sheet::refusal::LIST_LENGTH;
+use sheet::refusal::NO_ROOM;
 use whole::size;
 ghost use mathlib.Core.Path.{_≡_};
 ghost use mathlib.Core.List.{[], _∷_, _++_};
-ghost use Prim.Native.Nat.{_+_, _*_, _≤_};
+ghost use Prim.Native.Nat.{_*_, _≤_};
 ghost use lib.IntN.{pos};
-ghost use lib.ListN.{length, take, drop};
-ghost use Rattle.sheet.specs.Lent.{filled};
+ghost use lib.ListN.{length};
+ghost use Rattle.sheet.specs.Lent.{filled, Wrote};
 ghost use Rattle.sheet.specs.Lists.{rowWidth};
-ghost use Rattle.rowtext.specs.Text.{newline, objectsWord, rowsWord, refusedWord, digits, sized, signed, field, numbers, sharedText, rowText, rowsTo, rowsText, countLine};
-ghost use Rattle.rowtext.specs.Put.{said, rowMost, lineMost, Wrote, rowsRefusal, putAnswer, Says};
+ghost use Rattle.decimal.specs.Decimal.{newline, sized};
+ghost use Rattle.rowtext.specs.Text.{objectsWord, rowsWord, refusedWord, sharedText, rowText, rowsTo, rowsText, countLine};
+ghost use Rattle.rowtext.specs.Put.{rowMost, lineMost, rowsRefusal, putAnswer};
+ghost use Rattle.rowtext.specs.PutLaws.{PutEnd};
 
 // 0 and the length of the text, or the number of the refusal. With 10 comes the length needed.
 pub struct Put {
@@ -24,113 +34,28 @@ pub struct Put {
 pub const ROW_MOST: usize = 153;
 // The most bytes that a line of a word and a number takes.
 pub const LINE_MOST: usize = 29;
-// The largest length that a call can answer.
-const LARGEST: usize = usize::MAX;
 
-// The place after a place. There is none after the largest.
-fn after(at: usize) -> usize
-    ensures { λ r. ⌜ r ≡ said (at + 1) ⌝ }
+// What two objects share, from a row.
+fn put_shared(row: &[i64], out: &mut [u8], at: usize) -> usize
+    requires { ⌜ length (now row) ≡ rowWidth ⌝ }
+    ensures { λ r. ⌜ Wrote (now (out .entry)) (now (out .exit)) at r (sharedText (now (row .entry))) ⌝ }
 {
-    if at < LARGEST {
-        return at + 1;
-    }
-    at
-}
-
-// A byte at a place of the lent bytes; a place that they do not have is passed by.
-fn put_byte(b: u8, out: &mut [u8], at: usize) -> usize
-    ensures { λ r. ⌜ Wrote (now (out .entry)) (now (out .exit)) at r (b ∷ []) ⌝ }
-{
-    if at < out.len() {
-        out[at] = b;
-    }
-    after(at)
-}
-
-fn put_text(text: &[u8], out: &mut [u8], at: usize) -> usize
-    ensures { λ r. ⌜ Wrote (now (out .entry)) (now (out .exit)) at r (now (text .entry)) ⌝ }
-{
-    let mut i = 0;
-    let mut next = at;
-    while i < text.len() {
-        let b = text[i];
-        next = put_byte(b, out, next);
-        i += 1;
-    }
-    next
-}
-
-// The digits before the last one, and then the last one.
-fn put_digits(n: u64, out: &mut [u8], at: usize) -> usize
-    ensures { λ r. ⌜ Wrote (now (out .entry)) (now (out .exit)) at r (digits n) ⌝ }
-{
-    let last = b'0' + (n % 10) as u8;
-    if n < 10 {
-        return put_byte(last, out, at);
-    }
-    let next = put_digits(n / 10, out, at);
-    put_byte(last, out, next)
-}
-
-fn put_sized(below: bool, n: u64, out: &mut [u8], at: usize) -> usize
-    ensures { λ r. ⌜ Wrote (now (out .entry)) (now (out .exit)) at r (sized below n) ⌝ }
-{
-    if below {
-        let next = put_byte(b'-', out, at);
-        return put_digits(n, out, next);
-    }
-    put_digits(n, out, at)
-}
-
-fn put_number(n: i64, out: &mut [u8], at: usize) -> usize
-    ensures { λ r. ⌜ Wrote (now (out .entry)) (now (out .exit)) at r (signed n) ⌝ }
-{
-    put_sized(n < 0, size(n), out, at)
-}
-
-fn put_field(n: i64, out: &mut [u8], at: usize) -> usize
-    ensures { λ r. ⌜ Wrote (now (out .entry)) (now (out .exit)) at r (field n) ⌝ }
-{
-    let next = put_byte(b' ', out, at);
-    put_number(n, out, next)
-}
-
-// The numbers of a list from a place on, each behind a blank.
-fn put_numbers(list: &[i64], from: usize, count: usize, out: &mut [u8], at: usize) -> usize
-    requires { ⌜ from + count ≤ length (now list) ⌝ }
-    ensures { λ r. ⌜ Wrote (now (out .entry)) (now (out .exit)) at r (numbers (take count (drop from (now (list .entry))))) ⌝ }
-{
-    let mut i = 0;
-    let mut next = at;
-    while i < count {
-        let n = list[from + i];
-        next = put_field(n, out, next);
-        i += 1;
-    }
-    next
-}
-
-// What two objects share, from the row that begins at a place of the list.
-fn put_shared(list: &[i64], from: usize, out: &mut [u8], at: usize) -> usize
-    requires { ⌜ from + rowWidth ≤ length (now list) ⌝ }
-    ensures { λ r. ⌜ Wrote (now (out .entry)) (now (out .exit)) at r (sharedText (take rowWidth (drop from (now (list .entry))))) ⌝ }
-{
-    let how = list[from + 2];
+    let how = row[2];
     if how == 1 {
         let next = put_text(b" point", out, at);
-        return put_numbers(list, from + 3, 5, out, next);
+        return put_fields(&row[3..SHARE_WIDTH], out, next);
     }
     put_text(b" many", out, at)
 }
 
-fn put_row(list: &[i64], from: usize, out: &mut [u8], at: usize) -> usize
-    requires { ⌜ from + rowWidth ≤ length (now list) ⌝ }
-    ensures { λ r. ⌜ Wrote (now (out .entry)) (now (out .exit)) at r (rowText (take rowWidth (drop from (now (list .entry))))) ⌝ }
+fn put_row(row: &[i64], out: &mut [u8], at: usize) -> usize
+    requires { ⌜ length (now row) ≡ rowWidth ⌝ }
+    ensures { λ r. ⌜ Wrote (now (out .entry)) (now (out .exit)) at r (rowText (now (row .entry))) ⌝ }
 {
-    let i = list[from];
+    let i = row[0];
     let first = put_number(i, out, at);
-    let second = put_numbers(list, from + 1, 1, out, first);
-    let shared = put_shared(list, from, out, second);
+    let second = put_fields(&row[1..2], out, first);
+    let shared = put_shared(row, out, second);
     put_byte(b'\n', out, shared)
 }
 
@@ -142,7 +67,7 @@ fn put_all(list: &[i64], rows: usize, out: &mut [u8]) -> usize
     let mut next = 0;
     while k < rows {
         let from = k * ROW_WIDTH;
-        next = put_row(list, from, out, next);
+        next = put_row(&list[from..from + ROW_WIDTH], out, next);
         k += 1;
     }
     next
@@ -158,7 +83,7 @@ pub fn put_rows(rows: &[i64], out: &mut [u8]) -> Put
     let over = n % ROW_WIDTH;
     if over != 0 {
         return Put {
-            refusal: 14,
+            refusal: LIST_LENGTH,
             length: 0,
         };
     }
@@ -167,7 +92,7 @@ pub fn put_rows(rows: &[i64], out: &mut [u8]) -> Put
     let needed = put_all(rows, count, &mut none);
     if out.len() < needed {
         return Put {
-            refusal: 10,
+            refusal: NO_ROOM,
             length: needed,
         };
     }
@@ -189,13 +114,13 @@ fn put_word(word: &[u8], below: bool, n: u64, out: &mut [u8]) -> usize
 
 // The line of a word and a number.
 fn put_line(word: &[u8], below: bool, n: u64, out: &mut [u8]) -> Put
-    ensures { λ r. ⌜ Says (pos 0) (now (word .entry) ++ sized below n ++ (newline ∷ [])) (now (out .entry)) r (now (out .exit)) ⌝ }
+    ensures { λ r. ⌜ PutEnd (pos 0) (now (word .entry) ++ sized below n ++ (newline ∷ [])) (now (out .entry)) r (now (out .exit)) ⌝ }
 {
     let mut none = [0u8; 0];
     let length = put_word(word, below, n, &mut none);
     if out.len() < length {
         return Put {
-            refusal: 10,
+            refusal: NO_ROOM,
             length,
         };
     }

@@ -5,15 +5,15 @@ use lib.IntN.{ℤ}
 use contract.Lifetimes.{Lfts}
 use denote.Ref.{RefT}
 use Rattle.sheet.specs.declared.Point.{Point}
-use Rattle.screen.specs.declared.Place.{Place}
+use Rattle.screen.specs.declared.OnScreen.{OnScreen}
 use Rattle.screen.specs.declared.Boxed.{Boxed}
 use Rattle.screen.specs.PlacesLaws.{place-one}
-use Rattle.screen.specs.ExtentsLaws.{box-one}
+use Rattle.screen.specs.BoxesLaws.{box-one}
 use Rattle.screen.proofs.places.place_of.Reads as place-of
-use Rattle.screen.proofs.extents.box_of.Reads as box-of
+use Rattle.screen.proofs.boxes.box_of.Reads as box-of
 
 pub place-of-answer :
-    (κs : Lfts 0) (a : Point) (r s : Place) → place-of.Post κs (a, tt) r (a, tt) → place-of.Post κs (a, tt) s (a, tt) → r ≡ s
+    (κs : Lfts 0) (a : Point) (r s : OnScreen) → place-of.Post κs (a, tt) r (a, tt) → place-of.Post κs (a, tt) s (a, tt) → r ≡ s
 place-of-answer κs a r s p q = place-one r s (p ∙ sym q)
 
 pub box-of-answer :

@@ -17,7 +17,7 @@ use Rattle.sheet.specs.declared.Ends.{Ends}
 use Rattle.sheet.specs.Points.{narrow, frame, isPoint}
 use Rattle.sheet.specs.PointsLaws.{narrow-is, frame-is}
 use Rattle.kernel.proofs.ends.ends_of.Reads as ends-of
-use Rattle.screen.specs.declared.Place.{Place}
+use Rattle.screen.specs.declared.OnScreen.{OnScreen}
 use Rattle.screen.specs.declared.Boxed.{Boxed}
 use Rattle.screen.specs.Shown.{Shown, EndIn, Parallel, BoxShown}
 use Rattle.screen.specs.PlaceShown.{shown}
@@ -25,13 +25,13 @@ use Rattle.screen.specs.EqualPlaces.{places-equal}
 use Rattle.screen.specs.EndsApart.{end-narrow, end-lined, lined-apart}
 use Rattle.screen.specs.BoxShown.{box-shown}
 use Rattle.screen.proofs.places.place_of.Reads as place-of
-use Rattle.screen.proofs.extents.box_of.Reads as box-of
+use Rattle.screen.proofs.boxes.box_of.Reads as box-of
 
-pub place-shows : (κs : Lfts 0) (p : Point) (r : Place) → place-of.Post κs (p, tt) r (p, tt) → Shown p r
+pub place-shows : (κs : Lfts 0) (p : Point) (r : OnScreen) → place-of.Post κs (p, tt) r (p, tt) → Shown p r
 place-shows κs p r = shown p r
 
 -- r and s are places that were given for p and q
-module _ (κs : Lfts 0) (p q : Point) (r s : Place) (h : place-of.Post κs (p, tt) r (p, tt)) (k : place-of.Post κs (q, tt) s (q, tt)) where
+module _ (κs : Lfts 0) (p q : Point) (r s : OnScreen) (h : place-of.Post κs (p, tt) r (p, tt)) (k : place-of.Post κs (q, tt) s (q, tt)) where
   pub equal-places : (isPoint p ≡ true) × (narrow p ≡ true) → (r ≡ s) ↔ (p ≡ q)
   equal-places = places-equal p q r s h k
 

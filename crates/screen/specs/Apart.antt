@@ -11,9 +11,10 @@ use native.Mathlib.Omega.{arith}
 use lib.IntN.{ℤ, pos, negsuc, natAbs, _*ℤ_, _-ℤ_}
 use lib.Ieee.{Float}
 use Rattle.whole.specs.Laws.{eq-of-sub}
-use Rattle.whole.specs.Bound.{Within, w-self, w-is, w-sub, w-mul, w-lit, natAbs-mul}
+use Rattle.whole.specs.Within.{Within}
+use Rattle.whole.specs.Bound.{w-self, w-is, w-sub, w-mul, w-lit, natAbs-mul}
 use Rattle.whole.specs.Reify.{reify, reading, solve}
-use Rattle.sheet.specs.PointsLaws.{Upto}
+use Rattle.sheet.specs.PointFacts.{Upto}
 use Rattle.screen.specs.Quotient.{quotient, over, under, Near}
 use Rattle.screen.specs.QuotientLaws.{Parts, quotient-near}
 

@@ -6,29 +6,29 @@ use mathlib.Core.Path.{_≡_, refl, sym, ap, subst, _∙_}
 use mathlib.Core.Logic.{_⊎_, inl, inr, ⊎-elim}
 use mathlib.Core.Bool.{Bool, true, false, cond, true≢false}
 use mathlib.Core.List.{List, [], _∷_, _++_}
-use Prim.Native.Nat.{ℕ, zero, suc, _+_, _<_, _≤_}
+use Prim.Native.Nat.{ℕ, zero, suc, _<_}
 use native.Mathlib.Omega.{arith}
 use borrow.Author.Tests.{eqb-true, eqb-false}
 use lib.Dec.{eqb}
 use lib.IntN.{ℤ, pos, ℤ-discrete}
 use lib.Signed.{ltZ-yes}
+use Rattle.whole.specs.InTurn.{inTurn, allOf}
 use Rattle.whole.specs.Bound.{w-lit, w-pos}
 use Rattle.whole.specs.Flag.{eqZ}
 use Rattle.whole.specs.Tests.{cond-by, eq-eqZ, ne-eqZ}
 use Rattle.sheet.specs.declared.Point.{Point}
-use Rattle.sheet.specs.Figure.{Vec, figure}
+use Rattle.sheet.specs.Figure.{Vec}
 use Rattle.sheet.specs.Points.{given, standard}
-use Rattle.sheet.specs.Lists.{countOf, objectAt, listRefusal}
+use Rattle.sheet.specs.Lists.{countOf, listRefusal}
 use Rattle.sheet.specs.ListsLaws.{Listable, listable}
-use Rattle.screen.specs.declared.Extent.{Extent}
+use Rattle.screen.specs.declared.SheetBox.{SheetBox}
 use Rattle.screen.specs.declared.Boxed.{Boxed}
 use Rattle.screen.specs.declared.Boxed.the-variants.{Around}
-use Rattle.screen.specs.Lists.{nextObjects, objectsOf}
 use Rattle.screen.specs.Quotient.{float, Near}
 use Rattle.screen.specs.QuotientLaws.{Parts, quotient-near, over-one}
-use Rattle.screen.specs.Told.{refusal, answered}
-use Rattle.screen.specs.Extents.{standardEnds, endsOf, part, extreme, isNone, extentOf, extentSays, boxedSays}
-use Rattle.screen.specs.ExtentsLaws.{box-one, ends-small, extreme-within}
+use Rattle.screen.specs.Values.{refusal, floatAnswer}
+use Rattle.screen.specs.Boxes.{endsAt, endsOf, part, extreme, isNone, boxOf, boxSays, boxedSays}
+use Rattle.screen.specs.BoxesLaws.{box-one, ends-small, extreme-within}
 use Rattle.screen.specs.Surrounds.{standards, givens, ends-standard, Met, surrounds, none-zero}
 use Rattle.screen.specs.Shown.{Among, here, later, StandardEnd, Touched, Inside, Encloses, Shows, BoxShown, box-refused, around-none, around}
 
@@ -84,46 +84,38 @@ some (later m) = refl
 
 -- ---- the ends of a list are those of its objects
 
--- v is a standard end of an object from number i on, before number j
-record EndOf (l : List ℤ) (i j : ℕ) (v : Vec) : Type 0 where
+-- v is a standard end of one of the first n objects
+record EndOf (l : List ℤ) (n : ℕ) (v : Vec) : Type 0 where
   index : ℕ
-  from : i ≤ index
-  below : index < j
-  among : Among v (standardEnds (figure (objectAt l index)))
+  below : index < n
+  among : Among v (endsAt l index)
 
-ends-has : (l : List ℤ) (i n : ℕ) {v : Vec} → EndOf l i (i + n) v → Among v (endsOf (nextObjects l i n))
-unfolding nextObjects endsOf
-ends-has l i zero e = absurd (omega (arith, e .from, e .below))
-ends-has l i (suc n) {v} e = go (eqb i (e .index)) (eqb-true i (e .index)) (eqb-false i (e .index)) (ends-has l (suc i) n)
-  where
-    go : (t : Bool) → (t ≡ true → i ≡ e .index) → (t ≡ false → i ≡ e .index → ⊥)
-        → (EndOf l (suc i) (suc i + n) v → Among v (endsOf (nextObjects l (suc i) n))) → Among v (endsOf (nextObjects l i (suc n)))
-    go true y m rest =
-        among-left (endsOf (nextObjects l (suc i) n))
-        (subst (λ (k : ℕ). Among v (standardEnds (figure (objectAt l k)))) (sym (y refl)) (e .among))
-    go false y m rest =
-        let d = m refl in
-        among-right (standardEnds (figure (objectAt l i))) (rest (record {
-          index = e .index;
-          from = omega (arith, e .from, d);
-          below = omega (arith, e .below);
-          among = e .among;
-        }))
+module _ (l : List ℤ) where
+  abbrev before : ℕ → List Vec
+  before n = allOf (λ i. endsAt l i) n
 
-ends-from : (l : List ℤ) (i n : ℕ) {v : Vec} → Among v (endsOf (nextObjects l i n)) → EndOf l i (i + n) v
-unfolding nextObjects endsOf
-ends-from l i (suc n) {v} m = go (ends-from l (suc i) n) (among-either (standardEnds (figure (objectAt l i))) m)
-  where
-    go : (Among v (endsOf (nextObjects l (suc i) n)) → EndOf l (suc i) (suc i + n) v)
-        → Among v (standardEnds (figure (objectAt l i))) ⊎ Among v (endsOf (nextObjects l (suc i) n)) → EndOf l i (i + suc n) v
-    go rest (inl m) = record { index = i; from = omega arith; below = omega arith; among = m }
-    go rest (inr m) =
-        let r = rest m in
-        record { index = r .index; from = omega (arith, r .from); below = omega (arith, r .below); among = r .among }
+  ends-has : (n : ℕ) {v : Vec} → EndOf l n v → Among v (before n)
+  unfolding inTurn
+  ends-has zero e = absurd (omega (arith, e .below))
+  ends-has (suc n) {v} e = go (eqb n (e .index)) (eqb-true n (e .index)) (eqb-false n (e .index)) (ends-has n)
+    where
+      go : (t : Bool) → (t ≡ true → n ≡ e .index) → (t ≡ false → n ≡ e .index → ⊥) → (EndOf l n v → Among v (before n)) → Among v (before n ++ endsAt l n)
+      go true y m rest = among-right (before n) (subst (λ (k : ℕ). Among v (endsAt l k)) (sym (y refl)) (e .among))
+      go false y m rest =
+          let d = m refl in
+          among-left (endsAt l n) (rest (record { index = e .index; below = omega (arith, e .below, d); among = e .among }))
+
+  ends-from : (n : ℕ) {v : Vec} → Among v (before n) → EndOf l n v
+  unfolding inTurn
+  ends-from (suc n) {v} m = go (ends-from n) (among-either (before n) m)
+    where
+      go : (Among v (before n) → EndOf l n v) → Among v (before n) ⊎ Among v (endsAt l n) → EndOf l (suc n) v
+      go rest (inl m) = let r = rest m in record { index = r .index; below = omega (arith, r .below); among = r .among }
+      go rest (inr m) = record { index = n; below = omega arith; among = m }
 
 module _ {l : List ℤ} (fine : Listable l) where
   abbrev places : List Vec
-  places = endsOf (objectsOf l)
+  places = endsOf l
 
   end-place : {p : Point} → StandardEnd l p → PlaceOf p places
   end-place {p} e =
@@ -131,16 +123,15 @@ module _ {l : List ℤ} (fine : Listable l) where
       let r = givens-from _ (subst (Among p) given-ends (standards-has (e .is-end) (e .is-standard))) in
       record {
         at = r .at;
-        among = ends-has l 0 (countOf l) (record { index = e .index; from = omega arith; below = omega (arith, e .below); among = r .among });
+        among = ends-has l (countOf l) (record { index = e .index; below = e .below; among = r .among });
         is = r .is;
       }
 
   place-end : {v : Vec} → Among v places → StandardEnd l (given v)
   place-end {v} m =
-      let e = ends-from l 0 (countOf l) m in
-      let below : e .index < countOf l = omega (arith, e .below) in
-      let r = standards-from _ (subst (Among (given v)) (sym (ends-standard (fine .each (e .index) below))) (givens-has (e .among))) in
-      record { index = e .index; below = below; is-end = r .0; is-standard = r .1 }
+      let e = ends-from l (countOf l) m in
+      let r = standards-from _ (subst (Among (given v)) (sym (ends-standard (fine .each (e .index) (e .below)))) (givens-has (e .among))) in
+      record { index = e .index; below = e .below; is-end = r .0; is-standard = r .1 }
 
   touched : {axis : ℕ} {z : ℤ} (coordinate : Point → ℤ) → ((v : Vec) → coordinate (given v) ≡ part axis v) → Met axis z places
       → Touched l coordinate z
@@ -169,33 +160,33 @@ module _ {l : List ℤ} (fine : Listable l) where
 
   shows : (up : Bool) (axis : ℕ) → Shows (extreme up axis places) (float (extreme up axis places))
   shows up axis =
-      let small = w-lit (extreme-within up axis places (ends-small l 0 (countOf l) (λ k h. fine .each k (omega arith)))) tt in
+      let small = w-lit (extreme-within up axis places (ends-small fine)) tt in
       let is = sym (over-one small) in
       let parts : Parts (extreme up axis places) (pos 1) = record { in-n = small; in-w = record { above = ltZ-yes tt; at-most = w-lit (w-pos 1) tt } } in
       record { is = is; near = subst (Near (extreme up axis places) (pos 1)) (sym is) (quotient-near parts) }
 
-  shown-around : listRefusal l ≡ pos 0 → BoxShown l (Around (extentOf places))
+  shown-around : listRefusal l ≡ pos 0 → BoxShown l (Around (boxOf places))
   shown-around z = go places refl
     where
-      go : (vs : List Vec) → places ≡ vs → BoxShown l (Around (extentOf places))
+      go : (vs : List Vec) → places ≡ vs → BoxShown l (Around (boxOf places))
       go [] e =
-          subst (λ (x : Extent). BoxShown l (Around x)) (sym (ap extentOf e ∙ none-zero))
+          subst (λ (x : SheetBox). BoxShown l (Around x)) (sym (ap boxOf e ∙ none-zero))
           (around-none z (λ p h. true≢false (sym (ap isNone e) ∙ some (end-place h .among))))
       go (v ∷ vs) e =
-          subst (λ (t : Bool). BoxShown l (Around (record { low = extentOf places .low; high = extentOf places .high; none = t })))
+          subst (λ (t : Bool). BoxShown l (Around (record { low = boxOf places .low; high = boxOf places .high; none = t })))
           (sym (ap isNone e))
           (around z (encloses (ap isNone e))
           (record { in-x = shows false 0; in-y = shows false 1 }) (record { in-x = shows true 0; in-y = shows true 1 }))
 
-pub box-shown : (l : List ℤ) (r : Boxed) → boxedSays r ≡ answered (listRefusal l) (extentSays (extentOf (endsOf (objectsOf l)))) → BoxShown l r
+pub box-shown : (l : List ℤ) (r : Boxed) → boxedSays r ≡ floatAnswer (listRefusal l) (boxSays (boxOf (endsOf l))) → BoxShown l r
 box-shown l r e = go (ℤ-discrete (listRefusal l) (pos 0))
   where
     is : {q : Boxed} → BoxShown l q → boxedSays r ≡ boxedSays q → BoxShown l r
     is {q} h f = subst (BoxShown l) (sym (box-one r q f)) h
 
     by : {b : Bool} → eqZ (listRefusal l) (pos 0) ≡ b
-        → boxedSays r ≡ cond b (extentSays (extentOf (endsOf (objectsOf l)))) (refusal (listRefusal l))
-    by t = e ∙ ap (λ (b : Bool). cond b (extentSays (extentOf (endsOf (objectsOf l)))) (refusal (listRefusal l))) t
+        → boxedSays r ≡ cond b (boxSays (boxOf (endsOf l))) (refusal (listRefusal l))
+    by t = e ∙ ap (λ (b : Bool). cond b (boxSays (boxOf (endsOf l))) (refusal (listRefusal l))) t
 
     go : Dec (listRefusal l ≡ pos 0) → BoxShown l r
     go (yes z) = is (shown-around (listable l z) z) (by (eq-eqZ z))

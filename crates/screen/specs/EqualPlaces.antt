@@ -8,19 +8,21 @@ use lib.ListN.{length}
 use native.Mathlib.Omega.{arith}
 use lib.IntN.{ℤ, pos, negℤ, _*ℤ_, *ℤ-comm, *ℤ-zero}
 use Rattle.whole.specs.Laws.{mul-neg}
-use Rattle.whole.specs.Bound.{Within, w-lit}
+use Rattle.whole.specs.Within.{Within}
+use Rattle.whole.specs.Bound.{w-lit}
 use Rattle.sheet.specs.declared.Point.{Point}
 use Rattle.sheet.specs.Figure.{Side, left, bottom, right, top, sideNumber, sideOf}
 use Rattle.sheet.specs.RefusalLaws.{side-of}
 use Rattle.sheet.specs.Ends.{nextSide}
 use Rattle.sheet.specs.Flags.{both, flags}
 use Rattle.sheet.specs.Points.{divisor, narrow, isPoint, pointRefusal}
-use Rattle.sheet.specs.PointsLaws.{Standard, Narrow, Frame, APoint, a-standard, a-frame, standard-is, narrow-is, point-is, point-sizes, in-proportion}
-use Rattle.screen.specs.declared.Place.{Place}
+use Rattle.sheet.specs.PointFacts.{Standard, Narrow, Frame, APoint, a-standard, a-frame}
+use Rattle.sheet.specs.PointsLaws.{standard-is, narrow-is, point-is, point-sizes, in-proportion}
+use Rattle.screen.specs.declared.OnScreen.{OnScreen}
 use Rattle.screen.specs.Quotient.{quotient}
 use Rattle.screen.specs.QuotientLaws.{Parts}
-use Rattle.screen.specs.Told.{Told, answered}
-use Rattle.screen.specs.ToldLaws.{as-many, as-many-wholes}
+use Rattle.screen.specs.Values.{Values, floatAnswer}
+use Rattle.screen.specs.ValuesLaws.{as-many, as-many-wholes}
 use Rattle.screen.specs.Places.{placeSays, isOn, goesTo, sideWhere, mAlong, nAlong, positionOf, edgeOf, placeOf}
 use Rattle.screen.specs.PlacesLaws.{place-one, side-where, frame-standard, place-standard, place-frame, along-by, ratios}
 use Rattle.screen.specs.Apart.{one-quotient}
@@ -69,8 +71,8 @@ module _ {p q : Point} (f : Frame p) (g : Frame q) (dp : divisor p ≡ 1) (dq : 
 
   by-edge : edgeOf p ≡ edgeOf q → p ≡ q
   by-edge e =
-      let wholes = ap (λ (t : Told). t .wholes) e in
-      let floats = ap (λ (t : Told). t .floats) e in
+      let wholes = ap (λ (t : Values). t .wholes) e in
+      let floats = ap (λ (t : Values). t .floats) e in
       let number : sideNumber (sideWhere p) ≡ sideNumber (sideWhere q) = cc in
       let slopes : quotient (mAlong (sideWhere p) p) (p .w) ≡ quotient (mAlong (sideWhere q) q) (q .w) = cc in
       let offsets : quotient (nAlong (sideWhere p) p) (p .w) ≡ quotient (nAlong (sideWhere q) q) (q .w) = cc in
@@ -90,7 +92,7 @@ by-position : {p q : Point} → Standard p → Standard q → divisor p ≡ 1 �
     → positionOf p ≡ positionOf q → p ≡ q
 by-position {p} {q} f g dp dq np e =
     let n = ratios (a-standard g dq) in
-    let floats = ap (λ (t : Told). t .floats) e in
+    let floats = ap (λ (t : Values). t .floats) e in
     let xs : quotient (p .nx) (p .w) ≡ quotient (q .nx) (q .w) = cc in
     let ys : quotient (p .ny) (p .w) ≡ quotient (q .ny) (q .w) = cc in
     in-proportion (a-standard f dp) (a-standard g dq)
@@ -109,16 +111,16 @@ by-place {p} {q} (a-frame f dp) (a-frame g dq) np e =
 
 -- ---- of what `place_of` answers
 
-placed : (p : Point) (r : Place) → isPoint p ≡ true → placeSays r ≡ answered (pointRefusal p) (placeOf p) → placeSays r ≡ placeOf p
+placed : (p : Point) (r : OnScreen) → isPoint p ≡ true → placeSays r ≡ floatAnswer (pointRefusal p) (placeOf p) → placeSays r ≡ placeOf p
 unfolding pointRefusal
-placed p r h e = e ∙ ap (λ (t : Bool). answered (cond t (pos 0) (pos 5)) (placeOf p)) h
+placed p r h e = e ∙ ap (λ (t : Bool). floatAnswer (cond t (pos 0) (pos 5)) (placeOf p)) h
 
 two-floats : {p : Point} → APoint p → length (placeOf p .floats) ≡ 2
 two-floats {p} (a-standard f d) = as-many (place-standard p (standard-is p .1 f))
 two-floats {p} (a-frame f d) = as-many (place-frame p (frame-standard f))
 
-pub places-equal : (p q : Point) (r s : Place)
-    → placeSays r ≡ answered (pointRefusal p) (placeOf p) → placeSays s ≡ answered (pointRefusal q) (placeOf q)
+pub places-equal : (p q : Point) (r s : OnScreen)
+    → placeSays r ≡ floatAnswer (pointRefusal p) (placeOf p) → placeSays s ≡ floatAnswer (pointRefusal q) (placeOf q)
     → (isPoint p ≡ true) × (narrow p ≡ true) → (r ≡ s) ↔ (p ≡ q)
 unfolding pointRefusal
 places-equal p q r s er es h = (λ e. to e (isPoint q) refl es, from)
@@ -126,7 +128,7 @@ places-equal p q r s er es h = (λ e. to e (isPoint q) refl es, from)
     a : APoint p
     a = point-is p .0 (h .0)
 
-    to : r ≡ s → (t : Bool) → isPoint q ≡ t → placeSays s ≡ answered (cond t (pos 0) (pos 5)) (placeOf q) → p ≡ q
+    to : r ≡ s → (t : Bool) → isPoint q ≡ t → placeSays s ≡ floatAnswer (cond t (pos 0) (pos 5)) (placeOf q) → p ≡ q
     to e true t es = by-place a (point-is q .0 t) (narrow-is p .0 (h .1)) (sym (placed p r (h .0) er) ∙ ap placeSays e ∙ es)
     to e false t es =
         let z = two-floats a in
@@ -134,4 +136,4 @@ places-equal p q r s er es h = (λ e. to e (isPoint q) refl es, from)
         absurd (omega arith)
 
     from : p ≡ q → r ≡ s
-    from e = place-one r s (er ∙ ap (λ (t : Point). answered (pointRefusal t) (placeOf t)) e ∙ sym es)
+    from e = place-one r s (er ∙ ap (λ (t : Point). floatAnswer (pointRefusal t) (placeOf t)) e ∙ sym es)

@@ -1,19 +1,22 @@
+-- what is to be believed
 pub mod Quotient
+pub mod Values
+pub mod Places
+pub mod Boxes
+pub mod Shown
+-- worked on them
+pub mod Worked
+-- laws: floats
 pub mod Rounding
 pub mod QuotientLaws
-pub mod Told
-pub mod ToldLaws
-pub mod Places
+pub mod ValuesLaws
+-- laws: places
 pub mod PlacesLaws
-pub mod Lists
-pub mod Extents
-pub mod ListsLaws
-pub mod ExtentsLaws
-pub mod Shown
 pub mod PlaceShown
 pub mod Apart
 pub mod EqualPlaces
 pub mod EndsApart
+-- laws: boxes
+pub mod BoxesLaws
 pub mod Surrounds
-pub mod Worked
 pub mod BoxShown

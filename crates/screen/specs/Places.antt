@@ -8,13 +8,13 @@ use Rattle.sheet.specs.declared.Point.{Point}
 use Rattle.sheet.specs.Figure.{Side, left, bottom, right, top, sideNumber}
 use Rattle.sheet.specs.Ends.{nextSide}
 use Rattle.sheet.specs.Points.{standard}
-use Rattle.screen.specs.declared.Place.{Place}
-use Rattle.screen.specs.declared.Place.the-variants.{At, Edge, Refused}
+use Rattle.screen.specs.declared.OnScreen.{OnScreen}
+use Rattle.screen.specs.declared.OnScreen.the-variants.{At, Edge, Refused}
 use Rattle.screen.specs.Quotient.{quotient}
-use Rattle.screen.specs.Told.{Told, refusal}
+use Rattle.screen.specs.Values.{Values, refusal}
 
 -- what each place says: 0, then x and y, or the side number, the slope and the offset; or the refusal
-abbrev pub placeSays : Place → Told
+abbrev pub placeSays : OnScreen → Values
 placeSays (At x y) = record { wholes = pos 0 ∷ []; floats = x ∷ y ∷ [] }
 placeSays (Edge n t o) = record { wholes = pos 0 ∷ n ∷ []; floats = t ∷ o ∷ [] }
 placeSays (Refused n) = refusal n
@@ -56,15 +56,15 @@ nAlong s p = along s (p .nx) (p .ny)
 -- ---- the place
 
 -- "A standard point gives nx/w and ny/w"
-abbrev pub positionOf : Point → Told
+abbrev pub positionOf : Point → Values
 positionOf p = record { wholes = pos 0 ∷ []; floats = quotient (p .nx) (p .w) ∷ quotient (p .ny) (p .w) ∷ [] }
 
 -- "a frame point gives its side and m/w of the coordinate along that side", and n/w of it
-abbrev pub edgeOf : Point → Told
+abbrev pub edgeOf : Point → Values
 edgeOf p = record {
   wholes = pos 0 ∷ sideNumber (sideWhere p) ∷ [];
   floats = quotient (mAlong (sideWhere p) p) (p .w) ∷ quotient (nAlong (sideWhere p) p) (p .w) ∷ [];
 }
 
-unfoldable pub placeOf : Point → Told
+unfoldable pub placeOf : Point → Values
 placeOf p = cond (standard p) (positionOf p) (edgeOf p)

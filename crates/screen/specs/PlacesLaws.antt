@@ -24,19 +24,20 @@ use Rattle.sheet.specs.Figure.{Side, left, bottom, right, top, sideNumber}
 use Rattle.sheet.specs.Ends.{begins}
 use Rattle.sheet.specs.Flags.{both, not-both}
 use Rattle.sheet.specs.Points.{size, standard}
-use Rattle.sheet.specs.PointsLaws.{Standard, OnEdge, Frame, APoint, a-standard, a-frame, point-sizes, standard-is}
-use Rattle.screen.specs.declared.Place.{Place}
-use Rattle.screen.specs.declared.Place.the-variants.{At, Edge, Refused}
+use Rattle.sheet.specs.PointFacts.{Standard, OnEdge, Frame, APoint, a-standard, a-frame}
+use Rattle.sheet.specs.PointsLaws.{point-sizes, standard-is}
+use Rattle.screen.specs.declared.OnScreen.{OnScreen}
+use Rattle.screen.specs.declared.OnScreen.the-variants.{At, Edge, Refused}
 use Rattle.screen.specs.QuotientLaws.{Parts}
-use Rattle.screen.specs.Told.{Told}
-use Rattle.screen.specs.ToldLaws.{as-many, as-many-wholes}
+use Rattle.screen.specs.Values.{Values}
+use Rattle.screen.specs.ValuesLaws.{as-many, as-many-wholes}
 use Rattle.screen.specs.Places.{placeSays, exactly, isOn, goesTo, sideWhere, along, positionOf, edgeOf, placeOf}
 
 -- ---- no two places say the same
 
-pub place-one : (r s : Place) → placeSays r ≡ placeSays s → r ≡ s
+pub place-one : (r s : OnScreen) → placeSays r ≡ placeSays s → r ≡ s
 place-one (At x y) (At x′ y′) e =
-    let f = ap (λ (t : Told). t .floats) e in
+    let f = ap (λ (t : Values). t .floats) e in
     let ex : x ≡ x′ = cc in
     let ey : y ≡ y′ = cc in
     ap₂ At ex ey
@@ -44,8 +45,8 @@ place-one (At x y) (Edge n t o) e = let z = as-many-wholes e in absurd (omega ar
 place-one (At x y) (Refused n) e = let z = as-many e in absurd (omega arith)
 place-one (Edge n t o) (At x y) e = let z = as-many-wholes e in absurd (omega arith)
 place-one (Edge n t o) (Edge n′ t′ o′) e =
-    let f = ap (λ (u : Told). u .floats) e in
-    let g = ap (λ (u : Told). u .wholes) e in
+    let f = ap (λ (u : Values). u .floats) e in
+    let g = ap (λ (u : Values). u .wholes) e in
     let et : t ≡ t′ = cc in
     let eo : o ≡ o′ = cc in
     let en : n ≡ n′ = cc in
@@ -53,7 +54,7 @@ place-one (Edge n t o) (Edge n′ t′ o′) e =
 place-one (Edge n t o) (Refused m) e = let z = as-many e in absurd (omega arith)
 place-one (Refused n) (At x y) e = let z = as-many e in absurd (omega arith)
 place-one (Refused n) (Edge m t o) e = let z = as-many e in absurd (omega arith)
-place-one (Refused n) (Refused m) e = let f = ap (λ (u : Told). u .wholes) e in let z : n ≡ m = cc in ap Refused z
+place-one (Refused n) (Refused m) e = let f = ap (λ (u : Values). u .wholes) e in let z : n ≡ m = cc in ap Refused z
 
 -- ---- the side of a frame point
 

@@ -20,11 +20,12 @@ use lib.Ieee.Order.{drop, kept}
 use lib.Ieee.Positive.{first-pos}
 use lib.Ieee.Scale.{round-same, grid, overflow, normal-of-fraction}
 use Rattle.whole.specs.Order.{pp-dest}
-use Rattle.whole.specs.Bound.{Within, natAbs-neg}
+use Rattle.whole.specs.Within.{Within}
+use Rattle.whole.specs.Bound.{natAbs-neg}
 use Rattle.whole.specs.Tests.{out}
 use Rattle.whole.specs.Flat.{back}
 use Rattle.whole.specs.Reify.{reify, reading, solve}
-use Rattle.sheet.specs.PointsLaws.{Upto}
+use Rattle.sheet.specs.PointFacts.{Upto}
 use Rattle.screen.specs.Quotient.{float, quotient, zero+, signed, Near}
 use Rattle.screen.specs.Rounding.{Close, grid-close}
 

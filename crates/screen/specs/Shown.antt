@@ -15,12 +15,12 @@ use Rattle.sheet.specs.declared.Ends.{Ends}
 use Rattle.sheet.specs.declared.Ends.the-variants as ends
 use Rattle.sheet.specs.Figure.{_⇀_, Side, sideNumber, first, second}
 use Rattle.sheet.specs.Points.{isPoint, standard}
-use Rattle.sheet.specs.PointsLaws.{Standard, Frame}
+use Rattle.sheet.specs.PointFacts.{Standard, Frame}
 use Rattle.sheet.specs.Ends.{moment, firstEnd, lastEnd}
 use Rattle.sheet.specs.Crossing.{cross}
 use Rattle.sheet.specs.Lists.{countOf, objectAt, listRefusal}
-use Rattle.screen.specs.declared.Place.{Place}
-use Rattle.screen.specs.declared.Place.the-variants as place
+use Rattle.screen.specs.declared.OnScreen.{OnScreen}
+use Rattle.screen.specs.declared.OnScreen.the-variants as place
 use Rattle.screen.specs.declared.Position.{Position}
 use Rattle.screen.specs.declared.Boxed.{Boxed}
 use Rattle.screen.specs.declared.Boxed.the-variants as boxed
@@ -29,7 +29,7 @@ use Rattle.screen.specs.Places.{goesTo, mAlong, nAlong}
 
 -- ---- a place
 
-pub data Shown (p : Point) : Place → Type 0 where
+pub data Shown (p : Point) : OnScreen → Type 0 where
   a-position : {x y : Float} → Standard p → Near (p .nx) (p .w) x → Near (p .ny) (p .w) y → Shown p (place.At x y)
   an-edge : {t o : Float} (s : Side) → Frame p → goesTo s p ≡ true → Near (mAlong s p) (p .w) t → Near (nAlong s p) (p .w) o
       → Shown p (place.Edge (sideNumber s) t o)

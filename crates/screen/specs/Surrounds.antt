@@ -18,17 +18,17 @@ use Rattle.sheet.specs.declared.Object.{Object}
 use Rattle.sheet.specs.declared.Point.{Point}
 use Rattle.sheet.specs.Figure.{Vec, _⇀_, Side, left, bottom, right, top, Figure, first, second, figure}
 use Rattle.sheet.specs.Refusal.{Accepted}
-use Rattle.sheet.specs.RefusalLaws.{Small, Taken, a-segment, a-ray, a-line, a-side, accepted-taken}
+use Rattle.sheet.specs.RefusalLaws.{WithinBoth, Taken, a-segment, a-ray, a-line, a-side, accepted-taken}
 use Rattle.sheet.specs.Points.{given, standard}
 use Rattle.sheet.specs.PointsLaws.{frame-divided}
 use Rattle.sheet.specs.Ends.{moment, farEnd, reverse, begins, nextSide, firstOf, lastOf, firstEnd, lastEnd}
 use Rattle.sheet.specs.EndsLaws.{Way, proper-way, reverse-way, far-frame, given-fine}
-use Rattle.screen.specs.declared.Extent.{Extent}
+use Rattle.screen.specs.declared.SheetBox.{SheetBox}
 use Rattle.screen.specs.Quotient.{zero+}
 use Rattle.screen.specs.QuotientLaws.{float-zero}
 use Rattle.screen.specs.Shown.{Among, here, later}
 use Rattle.screen.specs.PlacesLaws.{flat-is, frame-standard}
-use Rattle.screen.specs.Extents.{standardEnds, beyond, farther, part, farthest, extreme, isNone, extentOf}
+use Rattle.screen.specs.Boxes.{standardEnds, passes, farther, part, farthest, extreme, isNone, boxOf}
 
 -- ---- the standard ends
 
@@ -41,7 +41,7 @@ abbrev pub givens : List Vec → List Point
 givens [] = []
 givens (v ∷ vs) = given v ∷ givens vs
 
-given-standard : {v : Vec} → Small 2000 v → standard (given v) ≡ true
+given-standard : {v : Vec} → WithinBoth 2000 v → standard (given v) ≡ true
 given-standard s = sym (flat-is (given-fine s .point))
 
 far-standard : (p d : Vec) → Way (d .x) (d .y) (moment p d) → standard (farEnd p d) ≡ false
@@ -107,7 +107,7 @@ farthest-met : (up : Bool) (axis : ℕ) (z : ℤ) (vs : List Vec) → From axis 
 unfolding farthest
 farthest-met up axis z [] = inl refl
 farthest-met up axis z (v ∷ vs) =
-    cond-by (λ (y : ℤ). From axis z (farthest up axis y vs) (v ∷ vs)) (beyond up z (part axis v))
+    cond-by (λ (y : ℤ). From axis z (farthest up axis y vs) (v ∷ vs)) (passes up z (part axis v))
     (λ e. inr (from-first (farthest-met up axis (part axis v) vs)))
     (λ e. from-later (farthest-met up axis z vs))
 
@@ -183,7 +183,7 @@ surrounds vs e = record {
 
 -- "with none, all four are +0 and a flag says so"
 pub none-zero :
-    _≡_ {A = Extent} (extentOf [])
+    _≡_ {A = SheetBox} (boxOf [])
     (record { low = record { x = zero+; y = zero+ }; high = record { x = zero+; y = zero+ }; none = true })
 unfolding extreme
 none-zero = let z = float-zero in λ i. record { low = record { x = z i; y = z i }; high = record { x = z i; y = z i }; none = true }

@@ -3,7 +3,9 @@
 use mathlib.Core.Path.{_≡_, refl, sym, _∙_, ap}
 use mathlib.Core.Logic.{inl, inr}
 use mathlib.Core.Bool.{Bool, true, false, true≢false}
-use mathlib.Core.List.{List, [], _∷_}
+use mathlib.Core.List.{List, [], _∷_, _++_}
+use Rattle.whole.specs.InTurn.{inTurn}
+use Rattle.sheet.specs.Answers.{objectNumbers}
 use lib.Dec.{le→leb, lit≤, lit<}
 use lib.Count.{trailingZeros}
 use lib.Ieee.{Float, nan, inf, fin, span, climb, size, odd, units, round, div, ofInt}
@@ -14,27 +16,27 @@ use Rattle.whole.specs.Tests.{eqZ-false}
 use Rattle.sheet.specs.declared.Object.{Object}
 use Rattle.sheet.specs.declared.Point.{Point}
 use Rattle.sheet.specs.declared.Ends.the-variants as ends
-use Rattle.sheet.specs.Figure.{Vec, Side, left, bottom, right, top, sideNumber, figure}
+use Rattle.sheet.specs.Figure.{Vec, Side, left, bottom, right, top, sideNumber, figureOf}
 use Rattle.sheet.specs.Points.{divided, standard, narrow, frame, isPoint}
 use Rattle.sheet.specs.PointsLaws.{frame-is}
 use Rattle.sheet.specs.Ends.{farRaw, farEnd, firstEnd, lastEnd}
 use Rattle.sheet.specs.Cases.{minus, point, at, segment, ray, line, side}
-use Rattle.screen.specs.declared.Place.{Place}
-use Rattle.screen.specs.declared.Place.the-variants as place
+use Rattle.screen.specs.declared.OnScreen.{OnScreen}
+use Rattle.screen.specs.declared.OnScreen.the-variants as place
 use Rattle.screen.specs.declared.Boxed.the-variants as boxed
-use Rattle.screen.specs.Told.{Told}
+use Rattle.screen.specs.Values.{Values}
 use Rattle.screen.specs.Quotient.{zero+, float, quotient, Near}
 use Rattle.screen.specs.Places.{placeSays, goesTo, sideWhere, mAlong, nAlong, placeOf}
 use Rattle.screen.specs.Shown.{Shown, a-position, an-edge, no-point, EndIn, Parallel}
-use Rattle.screen.specs.Extents.{endsOf, farthest, extreme, extentOf, boxedSays}
+use Rattle.screen.specs.Boxes.{endsOf, farthest, extreme, boxOf, boxedSays}
 
 -- ---- places
 
 -- 0, x and y; 0, the side number, the slope m/w and the offset n/w: each float as the two numbers that are divided
-abbrev position : ℤ → ℤ → ℤ → Told
+abbrev position : ℤ → ℤ → ℤ → Values
 position x y w = record { wholes = pos 0 ∷ []; floats = quotient x w ∷ quotient y w ∷ [] }
 
-abbrev edge : ℤ → ℤ → ℤ → ℤ → Told
+abbrev edge : ℤ → ℤ → ℤ → ℤ → Values
 edge number m n w = record { wholes = pos 0 ∷ number ∷ []; floats = quotient m w ∷ quotient n w ∷ [] }
 
 pub record WorkedPlaces : Type 0 where
@@ -122,7 +124,7 @@ pub record WorkedParallel : Type 0 where
   refused-in : EndIn (lastEnd upper) (ends.Refused (pos 3)) → ⊥
 
 pub worked-parallel : WorkedParallel
-unfolding sgn steps gcd gcdOf figure divided farRaw farEnd firstEnd lastEnd standard sideWhere placeOf
+unfolding sgn steps gcd gcdOf figureOf divided farRaw farEnd firstEnd lastEnd standard sideWhere placeOf
 worked-parallel = record {
   rows-4-and-6 = (refl, refl, refl, refl);
   are-parallel = record {
@@ -150,14 +152,14 @@ vec x y = record { x = x; y = y }
 -- a segment from (1, 2) to (-3, 4) and a ray from (7, -8) through (9, 10); a line and a side have no standard end
 abbrev theirEnds : List Vec
 theirEnds =
-    endsOf (segment (pos 1) (pos 2) (minus 3) (pos 4) ∷ line (pos 0) (pos 0) (minus 9) (minus 9) ∷ side (pos 4)
-    ∷ ray (pos 7) (minus 8) (pos 9) (pos 10) ∷ [])
+    endsOf (objectNumbers (segment (pos 1) (pos 2) (minus 3) (pos 4)) ++ objectNumbers (line (pos 0) (pos 0) (minus 9) (minus 9))
+    ++ objectNumbers (side (pos 4)) ++ objectNumbers (ray (pos 7) (minus 8) (pos 9) (pos 10)))
 
 pub record WorkedBox : Type 0 where
   standard-ends : theirEnds ≡ vec (pos 1) (pos 2) ∷ vec (minus 3) (pos 4) ∷ vec (pos 7) (minus 8) ∷ []
   -- "lowest and highest x and y over its standard ends"
   lowest-and-highest :
-      extentOf theirEnds
+      boxOf theirEnds
       ≡ record {
         low = record { x = float (minus 3); y = float (minus 8) };
         high = record { x = float (pos 7); y = float (pos 4) };
@@ -165,20 +167,20 @@ pub record WorkedBox : Type 0 where
       }
   -- "with none, all four are +0 and a flag says so"
   around-none :
-      extentOf []
+      boxOf []
       ≡ record {
         low = record { x = float (pos 0); y = float (pos 0) };
         high = record { x = float (pos 0); y = float (pos 0) };
         none = true;
       }
   said :
-      (boxedSays (boxed.Around (extentOf [])) .wholes ≡ pos 0 ∷ pos 1 ∷ [])
-      × (boxedSays (boxed.Around (extentOf theirEnds))
+      (boxedSays (boxed.Around (boxOf [])) .wholes ≡ pos 0 ∷ pos 1 ∷ [])
+      × (boxedSays (boxed.Around (boxOf theirEnds))
       ≡ record { wholes = pos 0 ∷ pos 0 ∷ []; floats = float (minus 3) ∷ float (minus 8) ∷ float (pos 7) ∷ float (pos 4) ∷ [] })
       × (boxedSays (boxed.Refused (pos 14)) ≡ record { wholes = pos 14 ∷ []; floats = [] })
 
 pub worked-box : WorkedBox
-unfolding figure endsOf farthest extreme
+unfolding inTurn figureOf farthest extreme
 worked-box = record {
   standard-ends = refl;
   lowest-and-highest = refl;
@@ -244,12 +246,12 @@ pub record WorkedShown : Type 0 where
   slope-not-below : Shown east (place.Edge (pos 3) zero- one) → ⊥
   other-side : Shown east (place.Edge (pos 1) zero+ one) → ⊥
 
-abbrev OfEdge : Point → Place → Type 0
+abbrev OfEdge : Point → OnScreen → Type 0
 OfEdge p (place.At x y) = Unit {0}
 OfEdge p (place.Edge n t o) = (s : Side) × (goesTo s p ≡ true) × (n ≡ sideNumber s) × Near (mAlong s p) (p .w) t × Near (nAlong s p) (p .w) o
 OfEdge p (place.Refused n) = Unit {0}
 
-of-edge : {p : Point} {r : Place} → Shown p r → OfEdge p r
+of-edge : {p : Point} {r : OnScreen} → Shown p r → OfEdge p r
 of-edge (a-position f x y) = tt
 of-edge (an-edge s f g t o) = (s, g, refl, t, o)
 of-edge (no-point e) = tt

@@ -1,15 +1,15 @@
 // Where a point is on the screen: at a position, or on a side of the frame.
-use crate::Place;
+use crate::OnScreen;
 use crate::quotient::ratio;
 use kernel::points::check_point;
 use sheet::Point;
 ghost use mathlib.Core.Path.{_≡_};
 ghost use Rattle.sheet.specs.Points.{pointRefusal};
-ghost use Rattle.sheet.specs.PointsLaws.{APoint};
+ghost use Rattle.sheet.specs.PointFacts.{APoint};
 ghost use Rattle.sheet.specs.Figure.{sideNumber};
 ghost use Rattle.screen.specs.Quotient.{quotient};
 ghost use Rattle.screen.specs.QuotientLaws.{Parts};
-ghost use Rattle.screen.specs.Told.{answered};
+ghost use Rattle.screen.specs.Values.{floatAnswer};
 ghost use Rattle.screen.specs.Places.{exactly, sideWhere, edgeOf, placeOf, placeSays};
 ghost use Rattle.screen.specs.PlacesLaws.{alongNumber};
 
@@ -54,35 +54,35 @@ fn value_along(side: i64, x: i64, y: i64, w: i64) -> f64
 }
 
 // The slope tells the direction that leads to the side, the offset which of all parallel ways it is.
-fn edge_place(mx: i64, nx: i64, my: i64, ny: i64, w: i64) -> Place
+fn edge_place(mx: i64, nx: i64, my: i64, ny: i64, w: i64) -> OnScreen
     requires { ⌜ Parts mx w × Parts my w × Parts nx w × Parts ny w ⌝ }
     ensures { λ r. ⌜ placeSays r ≡ edgeOf (record { mx = mx; nx = nx; my = my; ny = ny; w = w }) ⌝ }
 {
     let side = side_number(mx, nx, my, ny, w);
     let slope = value_along(side, mx, my, w);
     let offset = value_along(side, nx, ny, w);
-    Place::Edge(side, slope, offset)
+    OnScreen::Edge(side, slope, offset)
 }
 
-fn point_place(mx: i64, nx: i64, my: i64, ny: i64, w: i64) -> Place
+fn point_place(mx: i64, nx: i64, my: i64, ny: i64, w: i64) -> OnScreen
     requires { ⌜ APoint (record { mx = mx; nx = nx; my = my; ny = ny; w = w }) ⌝ }
     ensures { λ r. ⌜ placeSays r ≡ placeOf (record { mx = mx; nx = nx; my = my; ny = ny; w = w }) ⌝ }
 {
     if (mx == 0) & (my == 0) {
         let x = ratio(nx, w);
         let y = ratio(ny, w);
-        return Place::At(x, y);
+        return OnScreen::At(x, y);
     }
     edge_place(mx, nx, my, ny, w)
 }
 
 // Where a point is: a standard one at a position, a frame one on a side.
-pub fn place_of(p: Point) -> Place
-    ensures { λ r. ⌜ placeSays r ≡ answered (pointRefusal p) (placeOf p) ⌝ }
+pub fn place_of(p: Point) -> OnScreen
+    ensures { λ r. ⌜ placeSays r ≡ floatAnswer (pointRefusal p) (placeOf p) ⌝ }
 {
     let refusal = check_point(p);
     if refusal != 0 {
-        return Place::Refused(refusal);
+        return OnScreen::Refused(refusal);
     }
     point_place(p.mx, p.nx, p.my, p.ny, p.w)
 }

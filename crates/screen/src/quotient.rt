@@ -1,6 +1,6 @@
 // A quotient of two whole numbers as a float: the only place where a whole number becomes one and is divided.
 ghost use mathlib.Core.Path.{_≡_};
-ghost use Rattle.whole.specs.Bound.{Within};
+ghost use Rattle.whole.specs.Within.{Within};
 ghost use Rattle.screen.specs.Quotient.{float, quotient, Near};
 ghost use Rattle.screen.specs.QuotientLaws.{Parts};
 

@@ -16,7 +16,7 @@ use Rattle.sheet.specs.Points.{isPoint, narrow, pointRefusal}
 use Rattle.sheet.specs.Flags.{both}
 use Rattle.sheet.specs.Signs.{orderRefusal, wideRefusal, turnRefusal, sideSignRefusal}
 use Rattle.sheet.specs.Crossing.{crossingRefusal}
-use Rattle.sheet.specs.AnswersLaws.{or-zero}
+use Rattle.whole.specs.ChoiceLaws.{or-zero}
 
 -- 0 where a test holds, and n elsewhere
 pub passed : (t : Bool) {n : ℕ} → (n ≡ 0 → ⊥) → cond t (pos 0) (pos n) ≡ pos 0 → t ≡ true

@@ -23,15 +23,18 @@ use Rattle.whole.specs.Order.{pp-dest, nn-sq, le-cert, ≤-trans, ≤-of, <-tra
 use Rattle.whole.specs.Cert.{z-eq, eq-cert}
 use Rattle.whole.specs.Sign.{sgn}
 use Rattle.whole.specs.SignLaws.{sgn-neg-eq, sgn-mul, sgn-mul-pos, sgn-zero, size-above}
-use Rattle.whole.specs.Bound.{Within, w-is, w-add, w-sub, w-mul, w-pos, w-self, w-weak, w-lit}
-use Rattle.whole.specs.Poly.{value, first}
-use Rattle.whole.specs.PolyLaws.{first-ne}
+use Rattle.whole.specs.Within.{Within}
+use Rattle.whole.specs.Bound.{w-is, w-add, w-sub, w-mul, w-pos, w-self, w-weak, w-lit}
+use Rattle.whole.specs.Poly.{value}
+use Rattle.whole.specs.Choice.{orElse}
+use Rattle.whole.specs.ChoiceLaws.{or-ne}
 use Rattle.whole.specs.Lead.{outweighs, small, lead-step, leading-settled}
 use Rattle.sheet.specs.declared.Point.{Point}
 use Rattle.sheet.specs.Figure.{Vec, _⇀_}
-use Rattle.sheet.specs.RefusalLaws.{Small}
+use Rattle.sheet.specs.RefusalLaws.{WithinBoth}
 use Rattle.sheet.specs.Points.{given}
-use Rattle.sheet.specs.PointsLaws.{OnEdge, Frame, square-within}
+use Rattle.sheet.specs.PointFacts.{OnEdge, Frame}
+use Rattle.sheet.specs.PointsLaws.{square-within}
 use Rattle.sheet.specs.Signs.{turn}
 use Rattle.sheet.specs.Crossing.{cross, dot}
 use Rattle.sheet.specs.Expansions.{sideB, sideC, pair-side-is}
@@ -139,7 +142,7 @@ enough w k h l =
     subst (λ (z : ℕ). z < k * k) (gathered w k)
     (both-parts (512000008000000 * (w * w)) (w * k) (k * k) (first-part (w * w) (w * k) (omega arith)) one (omega arith))
 
-module _ {p q s : Vec} (hp : Small 2000 p) (hq : Small 2000 q) (hs : Small 2000 s) where
+module _ {p q s : Vec} (hp : WithinBoth 2000 p) (hq : WithinBoth 2000 q) (hs : WithinBoth 2000 s) where
   in-inner : Within 32000000 (inner p q s)
   in-inner =
       w-add (w-mul (w-sub (hq .in-x) (hp .in-x)) (w-sub (hs .in-x) (hp .in-x))) (w-mul (w-sub (hq .in-y) (hp .in-y)) (w-sub (hs .in-y) (hp .in-y)))
@@ -181,7 +184,7 @@ module _ {p q s : Vec} (hp : Small 2000 p) (hq : Small 2000 q) (hs : Small 2000 
 -- ---- a frame point
 
 abbrev pub frameForm : Vec → Vec → Vec → Point → ℤ
-frameForm p q s u = first (sgn (turns p q s)) (negℤ (sgn (inner p q s) *ℤ turn (given q) (given s) u))
+frameForm p q s u = orElse (sgn (turns p q s)) (negℤ (sgn (inner p q s) *ℤ turn (given q) (given s) u))
 
 -- (m R + 0)² is (w R)²
 edge-square : (m n w R : ℤ) → OnEdge m n w → (m *ℤ R +ℤ n) *ℤ (m *ℤ R +ℤ n) ≡ (w *ℤ R) *ℤ (w *ℤ R)
@@ -218,7 +221,7 @@ module _ {u : Point} (f : Frame u) {R : ℤ} {w r : ℕ} (ew : u .w ≡ pos w) (
           ≤-trans (add (u .my *ℤ R +ℤ u .ny) (u .mx *ℤ R +ℤ u .nx) (full (edge-square (u .my) (u .ny) (u .w) R o)))
           (≤-of (+ℤ-comm ((u .my *ℤ R +ℤ u .ny) *ℤ (u .my *ℤ R +ℤ u .ny)) _))
 
-module _ {p q s : Vec} (hp : Small 2000 p) (hq : Small 2000 q) (hs : Small 2000 s) {u : Point} (f : Frame u)
+module _ {p q s : Vec} (hp : WithinBoth 2000 p) (hq : WithinBoth 2000 q) (hs : WithinBoth 2000 s) {u : Point} (f : Frame u)
     (R : ℤ) (hR : pos circleNeed <ℤ R) where
   abbrev atX : ℤ
   atX = u .mx *ℤ R +ℤ u .nx
@@ -276,8 +279,8 @@ module _ {p q s : Vec} (hp : Small 2000 p) (hq : Small 2000 q) (hs : Small 2000 
   far-angles = go (ℤ-discrete (turns p q s) (pos 0))
     where
       go : Dec (turns p q s ≡ pos 0) → sgn (angles p q s (u .w) atX atY) ≡ frameForm p q s u
-      go (yes e) = straight e ∙ ap (λ (z : ℤ). first z (negℤ (sgn (inner p q s) *ℤ turn (given q) (given s) u))) (sym (ap sgn e ∙ sgn-zero))
-      go (no n) = turning n ∙ sym (first-ne (turns p q s) _ n)
+      go (yes e) = straight e ∙ ap (λ (z : ℤ). orElse z (negℤ (sgn (inner p q s) *ℤ turn (given q) (given s) u))) (sym (ap sgn e ∙ sgn-zero))
+      go (no n) = turning n ∙ sym (or-ne (turns p q s) _ n)
 
 module _ {p q s u : Point} (a : Given p) (b : Given q) (c : Given s) (f : Frame u) where
   frame-at : (R : ℤ) → pos circleNeed <ℤ R → sgn (value (circlePoly p q s u) R) ≡ frameForm (givenPlace p) (givenPlace q) (givenPlace s) u

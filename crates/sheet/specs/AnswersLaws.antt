@@ -3,10 +3,11 @@
 --   says-refused, says-accepted the same from the code's test of a call's result
 --   by-answer                   what holds of both things that an answer may be, each where its number says so, holds of the answer
 --   not-refused                 a refusal is 0 where the code's test of a call's result finds 0
---   or-zero                     several checks in turn find nothing
 --   refused-first, refused-next   the first that finds something, from the code's test; what comes after one that finds nothing
 --   object-one, point-one       no two objects, and no two points, have the same five numbers
 --   made-one, ends-one, signed-one, crossing-one   no two values of an answer say the same numbers
+--   crossingBy, crossing-says             what two objects share as it is answered
+--   meetingBy, crossing-met, met-by an answer as what they share; and back
 -- Assumes nothing.
 use mathlib.Core.Path.{_≡_, refl, sym, _∙_, ap, ap₂, subst}
 use mathlib.Core.List.{List, [], _∷_}
@@ -15,8 +16,7 @@ use native.Mathlib.Omega.{arith}
 use lib.IntN.{ℤ, pos, ℤ-discrete}
 use mir.Syntax.{w64}
 use mir.Val.{SFits, ofZ}
-use Rattle.whole.specs.Flag.{eqZ}
-use Rattle.whole.specs.Tests.{cond-by, eqZ-true, eqZ-false, eq-eqZ, ne-eqZ, eq-left, out, out-is, Fit, fits-ok, lit-taken}
+use Rattle.whole.specs.Tests.{eq-eqZ, ne-eqZ, eq-left, out, out-is, Fit, fits-ok, lit-taken}
 use Rattle.sheet.specs.declared.Object.{Object}
 use Rattle.sheet.specs.declared.Point.{Point}
 use Rattle.sheet.specs.declared.Made.{Made}
@@ -28,8 +28,10 @@ use Rattle.sheet.specs.declared.Signed.the-variants as signed
 use Rattle.sheet.specs.declared.Crossing.{Crossing}
 use Rattle.sheet.specs.declared.Crossing.the-variants as crossing
 use Rattle.sheet.specs.Points.{numbers}
-use Rattle.sheet.specs.Signs.{orElse}
-use Rattle.sheet.specs.Answers.{answer, objectNumbers, madeSays, endsSay, signedSays, crossingSays}
+use Rattle.whole.specs.Choice.{orElse}
+use Rattle.whole.specs.ChoiceLaws.{or-first, or-next}
+use Rattle.sheet.specs.Crossing.{Meeting, none, point, many}
+use Rattle.sheet.specs.Answers.{answer, objectNumbers, madeSays, endsSay, signedSays, meetingNumbers, crossingSays}
 
 pub accepted : {n : ℤ} (values : List ℤ) → n ≡ pos 0 → answer n values ≡ pos 0 ∷ values
 accepted {n} values e = simp (eq-eqZ e)
@@ -61,23 +63,12 @@ by-answer one F {n} {values} given other f g h k r e = go (ℤ-discrete n (pos 0
     go (yes z) = subst F (sym (one r given (e ∙ accepted values z ∙ sym f))) (h z)
     go (no d) = subst F (sym (one r other (e ∙ refused values d ∙ sym g))) (k d)
 
--- several checks in turn find nothing
-pub or-zero : (n m : ℤ) → orElse n m ≡ pos 0 → (n ≡ pos 0) × (m ≡ pos 0)
-or-zero n m =
-    cond-by (λ (z : ℤ). z ≡ pos 0 → (n ≡ pos 0) × (m ≡ pos 0)) (eqZ n (pos 0)) (λ t e. (eqZ-true t, e)) (λ t e. absurd (eqZ-false t e))
-
 -- of several checks in turn: r, the result for n, is not 0; or it is 0, and what comes after it is left
 pub refused-first : {r n : ℤ} (m : ℤ) → r ≡ n → (ofZ w64 r ≡ 0 → ⊥) → r ≡ orElse n m
 refused-first {r} {n} m e d = e ∙ sym (or-first m (λ z. eq-left {x = r} {y = pos 0} d (e ∙ z)))
-  where
-    or-first : {n : ℤ} (m : ℤ) → (n ≡ pos 0 → ⊥) → orElse n m ≡ n
-    or-first m d = simp (ne-eqZ d)
 
 pub refused-next : {r n : ℤ} (m : ℤ) → SFits w64 r → r ≡ n → ofZ w64 r ≡ 0 → orElse n m ≡ m
 refused-next m f e z = or-next m (sym e ∙ lit-taken 0 tt f z)
-  where
-    or-next : {n : ℤ} (m : ℤ) → n ≡ pos 0 → orElse n m ≡ m
-    or-next m e = simp (eq-eqZ e)
 
 -- ---- no two values say the same
 
@@ -137,3 +128,30 @@ crossing-one (crossing.Refused n) crossing.Nothing e = let z : _≡_ {A = ℕ} 0
 crossing-one (crossing.Refused n) (crossing.Once q) e = let z : _≡_ {A = ℕ} 0 1 = cc in absurd (omega arith)
 crossing-one (crossing.Refused n) crossing.Many e = let z : _≡_ {A = ℕ} 0 1 = cc in absurd (omega arith)
 crossing-one (crossing.Refused n) (crossing.Refused m) e = let e1 : n ≡ m = cc in ap crossing.Refused e1
+
+-- ---- a crossing as it is answered, and back
+
+abbrev pub crossingBy : Meeting → Crossing
+crossingBy none = crossing.Nothing
+crossingBy (point p) = crossing.Once p
+crossingBy many = crossing.Many
+
+pub crossing-says : (m : Meeting) → crossingSays (crossingBy m) ≡ pos 0 ∷ meetingNumbers m
+crossing-says none = refl
+crossing-says (point p) = refl
+crossing-says many = refl
+
+-- of accepted objects the kernel never refuses
+abbrev pub meetingBy : Crossing → Meeting
+meetingBy crossing.Nothing = none
+meetingBy (crossing.Once p) = point p
+meetingBy crossing.Many = many
+meetingBy (crossing.Refused n) = none
+
+pub crossing-met : (m : Meeting) → meetingBy (crossingBy m) ≡ m
+crossing-met none = refl
+crossing-met (point p) = refl
+crossing-met many = refl
+
+pub met-by : (r : Crossing) (m : Meeting) → crossingSays r ≡ pos 0 ∷ meetingNumbers m → meetingBy r ≡ m
+met-by r m e = ap meetingBy (crossing-one r (crossingBy m) (e ∙ sym (crossing-says m))) ∙ crossing-met m

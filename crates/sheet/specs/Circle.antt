@@ -1,6 +1,7 @@
 -- "Side of circle": "the report's fourth predicate: the sign of its four by four determinant, as printed in section 3.3". Its rows are 1, x, y
 -- and x x + y y, its columns the four points in order. Where the first three turn left the sign is 1 outside of the circle through them, 0 on
 -- it and -1 inside; where they turn right it is the other way round; `cut/specs/Round` proves it.
+use mathlib.Core.Path.{_≡_}
 use mathlib.Core.Bool.{Bool, cond, not, _&&_, _||_}
 use lib.IntN.{ℤ, pos}
 use Rattle.whole.specs.Poly.{Poly, _⊞_, _⊟_, _⊠_, leading}
@@ -8,7 +9,7 @@ use Rattle.whole.specs.Flag.{eqZ}
 use Rattle.sheet.specs.declared.Point.{Point}
 use Rattle.sheet.specs.Limits.{reach}
 use Rattle.sheet.specs.Points.{X, Y, W, within, standard, pointRefusal}
-use Rattle.sheet.specs.Signs.{orElse}
+use Rattle.whole.specs.Choice.{orElse}
 
 pub record Column : Type 0 where
   pub one : Poly
@@ -51,3 +52,12 @@ givenRefusal p q s u = cond (isGiven p && isGiven q && isGiven s && (isGiven u |
 unfoldable pub circleRefusal : Point → Point → Point → Point → ℤ
 circleRefusal p q s u =
     orElse (pointRefusal p) (orElse (pointRefusal q) (orElse (pointRefusal s) (orElse (pointRefusal u) (givenRefusal p q s u))))
+
+-- two of the four points are equal
+pub data Repeats (p q s u : Point) : Type 0 where
+  first-second : p ≡ q → Repeats p q s u
+  first-third : p ≡ s → Repeats p q s u
+  first-fourth : p ≡ u → Repeats p q s u
+  second-third : q ≡ s → Repeats p q s u
+  second-fourth : q ≡ u → Repeats p q s u
+  third-fourth : s ≡ u → Repeats p q s u

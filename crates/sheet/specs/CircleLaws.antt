@@ -1,7 +1,7 @@
 -- The side of circle: its determinant at R, and which points are taken. To cite:
 --   Over, overAt, minorZ, circleZ, circle-value   the value at R is the determinant of whole numbers, of w, X and Y of each point
 --   circle-swap-first, circle-swap-middle, circle-swap-last   changing over two neighbours negates the sign
---   Repeats, circle-repeats                two of the four points are equal; then it is 0
+--   circle-repeats                         where two of the four points are equal it is 0
 --   Given, given-is, givenPlace, given-small   a given point: where the definition is true; its place, and how large that is
 --   given-taken                            it is not refused as a point
 --   Fourth, not-given                      the fourth is a given point or one of the frame
@@ -15,7 +15,8 @@ use Prim.Native.Nat.{zero, suc}
 use native.Mathlib.Omega.{arith}
 use lib.IntN.{ℤ, pos, negsuc, negℤ, _+ℤ_, _-ℤ_, _*ℤ_, negℤ-negℤ, pos-ne-negsuc}
 use Rattle.whole.specs.Reify.{reify, reading, solve}
-use Rattle.whole.specs.Bound.{Within, w-intro}
+use Rattle.whole.specs.Within.{Within}
+use Rattle.whole.specs.Bound.{w-intro}
 use Rattle.whole.specs.Poly.{Poly, value, _⊞_, _⊠_}
 use Rattle.whole.specs.PolyLaws.{value-one, value-two, value-sum, value-opposite, value-product}
 use Rattle.whole.specs.Lead.{leading-opposed}
@@ -24,14 +25,15 @@ use Rattle.sheet.specs.Figure.{Vec}
 use Rattle.sheet.specs.Limits.{reachSize}
 use Rattle.sheet.specs.Flags.{flags}
 use Rattle.sheet.specs.Points.{X, Y, W, standard, isPoint, pointRefusal, given}
-use Rattle.sheet.specs.PointsLaws.{Frame, APoint, a-standard, a-frame, all-four, standard-is, point-is}
-use Rattle.sheet.specs.RefusalLaws.{Small}
+use Rattle.sheet.specs.PointFacts.{Frame, APoint, a-standard, a-frame}
+use Rattle.sheet.specs.PointsLaws.{all-four, standard-is, point-is}
+use Rattle.sheet.specs.RefusalLaws.{WithinBoth}
 use Rattle.sheet.specs.EndsLaws.{given-fine}
-use Rattle.sheet.specs.Signs.{orElse}
-use Rattle.sheet.specs.AnswersLaws.{or-zero}
+use Rattle.whole.specs.Choice.{orElse}
+use Rattle.whole.specs.ChoiceLaws.{or-zero}
 use Rattle.sheet.specs.AcceptsLaws.{passed, point-taken}
 use Rattle.sheet.specs.Expansions.{det}
-use Rattle.sheet.specs.Circle.{Column, fourByFour, circlePoly, sideOfCircle, isGiven, givenRefusal, circleRefusal}
+use Rattle.sheet.specs.Circle.{Column, fourByFour, circlePoly, sideOfCircle, isGiven, givenRefusal, circleRefusal, Repeats, first-second, first-third, first-fourth, second-third, second-fourth, third-fourth}
 
 -- ---- the value at R
 
@@ -118,15 +120,6 @@ self-opposite {z = pos zero} e = refl
 self-opposite {z = pos (suc n)} e = absurd (pos-ne-negsuc (suc n) n e)
 self-opposite {z = negsuc n} e = absurd (pos-ne-negsuc (suc n) n (sym e))
 
--- two of the four points are equal
-pub data Repeats (p q s u : Point) : Type 0 where
-  first-second : p ≡ q → Repeats p q s u
-  first-third : p ≡ s → Repeats p q s u
-  first-fourth : p ≡ u → Repeats p q s u
-  second-third : q ≡ s → Repeats p q s u
-  second-fourth : q ≡ u → Repeats p q s u
-  third-fourth : s ≡ u → Repeats p q s u
-
 from-opposite : {a b : ℤ} → a ≡ negℤ b → a ≡ pos 0 → b ≡ pos 0
 from-opposite {b = b} e z = sym (negℤ-negℤ b) ∙ ap negℤ (sym e ∙ z)
 
@@ -163,7 +156,7 @@ given-is p h =
 abbrev pub givenPlace : Point → Vec
 givenPlace p = record { x = p .nx; y = p .ny }
 
-pub given-small : {p : Point} → Given p → Small 2000 (givenPlace p)
+pub given-small : {p : Point} → Given p → WithinBoth 2000 (givenPlace p)
 given-small g = record { in-x = g .in-nx; in-y = g .in-ny }
 
 given-same : {p : Point} → Given p → p ≡ given (givenPlace p)

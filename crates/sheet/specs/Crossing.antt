@@ -6,38 +6,38 @@ use Rattle.whole.specs.Sign.{sgn}
 use Rattle.whole.specs.Flag.{eqZ}
 use Rattle.sheet.specs.declared.Object.{Object}
 use Rattle.sheet.specs.declared.Point.{Point}
-use Rattle.sheet.specs.Figure.{Vec, _⇀_, Side, outX, outY, Figure, segment, ray, line, side, figure}
+use Rattle.sheet.specs.Figure.{Vec, _⇀_, Side, outX, outY, Figure, segment, ray, line, side, figure, figureOf}
 use Rattle.sheet.specs.Refusal.{objectRefusal}
 use Rattle.sheet.specs.Points.{size, given, divided}
 use Rattle.sheet.specs.Ends.{moment, farEnd, reverse, corner}
-use Rattle.sheet.specs.Signs.{orElse}
+use Rattle.whole.specs.Choice.{orElse}
 
 pub data Meeting : Type 0 where
   none : Meeting
   point : Point → Meeting
   many : Meeting
 
--- ---- segments, rays and lines are pieces of a line: the part from start to stop of the line through p in the direction d
+-- ---- segments, rays and lines are stretches of a line: the part from start to stop of the line through p in the direction d
 
--- where a piece ends, if it does
+-- where a stretch ends, if it does
 pub data Limit : Type 0 where
   free : Limit
   till : Vec → Limit
 
-pub record Piece : Type 0 where
+pub record Stretch : Type 0 where
   pub p : Vec
   pub d : Vec
   pub start : Limit
   pub stop : Limit
 
-abbrev pub segmentPiece : Vec → Vec → Piece
-segmentPiece p q = record { p = p; d = p ⇀ q; start = till p; stop = till q }
+abbrev pub segmentStretch : Vec → Vec → Stretch
+segmentStretch p q = record { p = p; d = p ⇀ q; start = till p; stop = till q }
 
-abbrev pub rayPiece : Vec → Vec → Piece
-rayPiece p q = record { p = p; d = p ⇀ q; start = till p; stop = free }
+abbrev pub rayStretch : Vec → Vec → Stretch
+rayStretch p q = record { p = p; d = p ⇀ q; start = till p; stop = free }
 
-abbrev pub linePiece : Vec → Vec → Piece
-linePiece p q = record { p = p; d = p ⇀ q; start = free; stop = free }
+abbrev pub lineStretch : Vec → Vec → Stretch
+lineStretch p q = record { p = p; d = p ⇀ q; start = free; stop = free }
 
 abbrev pub cross : Vec → Vec → ℤ
 cross a b = a .x *ℤ b .y -ℤ a .y *ℤ b .x
@@ -47,7 +47,7 @@ dot a b = a .x *ℤ b .x +ℤ a .y *ℤ b .y
 
 -- ---- not parallel: the place where the lines meet, if it is within both
 
-abbrev pub meetingPoint : Piece → Piece → Point
+abbrev pub meetingPoint : Stretch → Stretch → Point
 meetingPoint A B = record {
   mx = pos 0;
   nx = sgn (cross (A .d) (B .d)) *ℤ (moment (A .p) (A .d) *ℤ B .d .x -ℤ moment (B .p) (B .d) *ℤ A .d .x);
@@ -65,10 +65,10 @@ abbrev pub notBeyond : Limit → ℤ → ℤ → Bool
 notBeyond free h w = true
 notBeyond (till b) h w = leZ h w
 
-abbrev pub reaches : Piece → ℤ → ℤ → Bool
+abbrev pub reaches : Stretch → ℤ → ℤ → Bool
 reaches A h w = notBefore (A .start) h && notBeyond (A .stop) h w
 
-abbrev pub skew : Piece → Piece → Meeting
+abbrev pub skew : Stretch → Stretch → Meeting
 skew A B =
     cond
     (reaches A (sgn (cross (A .d) (B .d)) *ℤ cross (A .p ⇀ B .p) (B .d)) (size (cross (A .d) (B .d)))
@@ -95,18 +95,18 @@ between d (till a) free = many
 between d (till a) (till b) = cond (ltZ (dot d a) (dot d b)) many (cond (ltZ (dot d b) (dot d a)) none (point (given a)))
 
 -- the arrows of both point the same way
-abbrev pub alike : Piece → Piece → Bool
+abbrev pub alike : Stretch → Stretch → Bool
 alike A B = ltZ (pos 0) (dot (A .d) (B .d))
 
-abbrev pub together : Piece → Piece → Meeting
+abbrev pub together : Stretch → Stretch → Meeting
 together A B =
     between (A .d)
     (later (A .d) (A .start) (cond (alike A B) (B .start) (B .stop)))
     (sooner (A .d) (A .stop) (cond (alike A B) (B .stop) (B .start)))
 
-unfoldable pub pieces : Piece → Piece → Meeting
+unfoldable pub stretches : Stretch → Stretch → Meeting
 unfolding divided
-pieces A B =
+stretches A B =
     cond (eqZ (cross (A .d) (B .d)) (pos 0))
     (cond (eqZ (cross (A .d) (A .p ⇀ B .p)) (pos 0)) (together A B) none)
     (skew A B)
@@ -138,23 +138,23 @@ withSide n (ray p q) = endOn n (farEnd p (p ⇀ q)) none
 withSide n (line p q) = endOn n (farEnd p (p ⇀ q)) (endOn n (farEnd p (reverse (p ⇀ q))) none)
 withSide n (side m) = sides n m
 
--- a piece, which is that of the figure f, with any figure
-unfoldable pub withPiece : Figure → Piece → Figure → Meeting
-unfolding pieces withSide
-withPiece f A (segment p q) = pieces A (segmentPiece p q)
-withPiece f A (ray p q) = pieces A (rayPiece p q)
-withPiece f A (line p q) = pieces A (linePiece p q)
-withPiece f A (side n) = withSide n f
+-- a stretch, which is that of the figure f, with any figure
+unfoldable pub withStretch : Figure → Stretch → Figure → Meeting
+unfolding stretches withSide
+withStretch f A (segment p q) = stretches A (segmentStretch p q)
+withStretch f A (ray p q) = stretches A (rayStretch p q)
+withStretch f A (line p q) = stretches A (lineStretch p q)
+withStretch f A (side n) = withSide n f
 
 unfoldable pub meeting : Figure → Figure → Meeting
-unfolding withPiece withSide
-meeting (segment p q) g = withPiece (segment p q) (segmentPiece p q) g
-meeting (ray p q) g = withPiece (ray p q) (rayPiece p q) g
-meeting (line p q) g = withPiece (line p q) (linePiece p q) g
+unfolding withStretch withSide
+meeting (segment p q) g = withStretch (segment p q) (segmentStretch p q) g
+meeting (ray p q) g = withStretch (ray p q) (rayStretch p q) g
+meeting (line p q) g = withStretch (line p q) (lineStretch p q) g
 meeting (side n) g = withSide n g
 
 unfoldable pub crossingOf : Object → Object → Meeting
-unfolding figure meeting
+unfolding figureOf meeting
 crossingOf a b = meeting (figure a) (figure b)
 
 -- "Two objects: the first one's, then the second's"

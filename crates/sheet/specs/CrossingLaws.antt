@@ -25,10 +25,11 @@ use Rattle.sheet.specs.Refusal.{Accepted}
 use Rattle.sheet.specs.Points.{size, given, isPoint}
 use Rattle.sheet.specs.Ends.{moment, farEnd, reverse, begins}
 use Rattle.sheet.specs.Signs.{sideOfFigure, sideSign}
-use Rattle.sheet.specs.Crossing.{Meeting, none, point, many, Limit, free, till, Piece, segmentPiece, rayPiece, linePiece, cross, dot, meetingPoint, reaches, skew, later, sooner, between, alike, together, pieces, onSide, endOn, sides, withSide, withPiece, meeting, crossingOf}
+use Rattle.sheet.specs.Crossing.{Meeting, none, point, many, Limit, free, till, Stretch, segmentStretch, rayStretch, lineStretch, cross, dot, meetingPoint, reaches, skew, later, sooner, between, alike, together, stretches, onSide, endOn, sides, withSide, withStretch, meeting, crossingOf}
 use Rattle.sheet.specs.Flags.{both}
-use Rattle.sheet.specs.RefusalLaws.{Small, Proper, Drawn, draw-segment, draw-ray, draw-line, draw-side, accepted-drawn}
-use Rattle.sheet.specs.PointsLaws.{Standard, APoint, a-standard, point-is, standard-divided, divided-one}
+use Rattle.sheet.specs.RefusalLaws.{WithinBoth, Proper, Drawn, draw-segment, draw-ray, draw-line, draw-side, accepted-drawn}
+use Rattle.sheet.specs.PointFacts.{Standard, APoint, a-standard}
+use Rattle.sheet.specs.PointsLaws.{point-is, standard-divided, divided-one}
 use Rattle.sheet.specs.EndsLaws.{Way, proper-way, reverse-way, far-end-fine, given-fine, begins-fine}
 use Rattle.sheet.specs.Expansions.{side-of-figure}
 use Rattle.sheet.specs.OnLine.{OnLine, on-line-turn, on-line-given, on-line-divided, on-line-back, far-on-line, carried, cross-self, cross-same, cross-turned, on-side-sign}
@@ -54,21 +55,21 @@ module _ {F G : Point → Type 0} where
   good-map f g (a-point {e} h x y) = a-point h (f e x) (g e y)
   good-map f g a-many = a-many
 
--- ---- two pieces
+-- ---- two stretches
 
 -- a limit within the sheet that is on the line
 data Ended (p d : Vec) : Limit → Type 0 where
   unended : Ended p d free
-  ended : {a : Vec} → Small 2000 a → cross d (p ⇀ a) ≡ pos 0 → Ended p d (till a)
+  ended : {a : Vec} → WithinBoth 2000 a → cross d (p ⇀ a) ≡ pos 0 → Ended p d (till a)
 
-record Fair (A : Piece) : Type 0 where
+record Fair (A : Stretch) : Type 0 where
   way : Way (A .d .x) (A .d .y) (moment (A .p) (A .d))
   starts : Ended (A .p) (A .d) (A .start)
   stops : Ended (A .p) (A .d) (A .stop)
 
 -- ---- not parallel
 
-module _ (A B : Piece) where
+module _ (A B : Stretch) where
   -- "Standard: .. w at most 32,000,000, nx and ny within 64,000,000,000 either way"
   pub meeting-standard : Way (A .d .x) (A .d .y) (moment (A .p) (A .d)) → Way (B .d .x) (B .d .y) (moment (B .p) (B .d))
       → (cross (A .d) (B .d) ≡ pos 0 → ⊥) → Standard (meetingPoint A B)
@@ -109,7 +110,7 @@ module _ (A B : Piece) where
   meeting-second : OnLine (B .p) (B .d) (meetingPoint A B)
   meeting-second = meeting-on (B .p) (B .d) (reify eight (λ ρ v. simp (reading, v 0, v 1, v 2, v 3, v 4, v 5, v 6, v 7) (solve _ _ _ tt)))
 
-module _ {A B : Piece} (a : Fair A) (b : Fair B) where
+module _ {A B : Stretch} (a : Fair A) (b : Fair B) where
   skew-good : (cross (A .d) (B .d) ≡ pos 0 → ⊥) → Good (OnLine (A .p) (A .d)) (OnLine (B .p) (B .d)) (skew A B)
   skew-good n =
       let above = size-above n in
@@ -126,7 +127,7 @@ module _ {A B : Piece} (a : Fair A) (b : Fair B) where
     -- a limit of either is on both lines
     data Shared : Limit → Type 0 where
       unlimited : Shared free
-      shared : {a : Vec} → Small 2000 a → OnLine (A .p) (A .d) (given a) → OnLine (B .p) (B .d) (given a) → Shared (till a)
+      shared : {a : Vec} → WithinBoth 2000 a → OnLine (A .p) (A .d) (given a) → OnLine (B .p) (B .d) (given a) → Shared (till a)
 
     of-first : {l : Limit} → Ended (A .p) (A .d) l → Shared l
     of-first unended = unlimited
@@ -159,8 +160,8 @@ module _ {A B : Piece} (a : Fair A) (b : Fair B) where
         (later-shared (A .d) (of-first (a .starts)) (either (alike A B) (of-second (b .starts)) (of-second (b .stops))))
         (sooner (A .d) (A .stop) (cond (alike A B) (B .stop) (B .start)))
 
-  pieces-good : Good (OnLine (A .p) (A .d)) (OnLine (B .p) (B .d)) (pieces A B)
-  unfolding pieces
+  pieces-good : Good (OnLine (A .p) (A .d)) (OnLine (B .p) (B .d)) (stretches A B)
+  unfolding stretches
   pieces-good =
       good-cond (eqZ (cross (A .d) (B .d)) (pos 0))
       (λ h. good-cond (eqZ (cross (A .d) (A .p ⇀ B .p)) (pos 0)) (λ k. together-good (eqZ-true h) (eqZ-true k)) (λ k. a-none))
@@ -224,18 +225,18 @@ module _ {p q : Vec} (h : Proper p q) where
   at-p : Ended p (p ⇀ q) (till p)
   at-p = ended (h .small-p) (cross-self (p ⇀ q) p)
 
-  segment-fair : Fair (segmentPiece p q)
+  segment-fair : Fair (segmentStretch p q)
   segment-fair = record { way = proper-way h; starts = at-p; stops = ended (h .small-q) (cross-same (p ⇀ q)) }
 
-  ray-fair : Fair (rayPiece p q)
+  ray-fair : Fair (rayStretch p q)
   ray-fair = record { way = proper-way h; starts = at-p; stops = unended }
 
-  line-fair : Fair (linePiece p q)
+  line-fair : Fair (lineStretch p q)
   line-fair = record { way = proper-way h; starts = unended; stops = unended }
 
-with-piece-good : {f g : Figure} {A : Piece} → ((e : Point) → OnLine (A .p) (A .d) e → OnFigure f e) → Drawn f → Fair A → Drawn g
-    → Good (OnFigure f) (OnFigure g) (withPiece f A g)
-unfolding withPiece
+with-piece-good : {f g : Figure} {A : Stretch} → ((e : Point) → OnLine (A .p) (A .d) e → OnFigure f e) → Drawn f → Fair A → Drawn g
+    → Good (OnFigure f) (OnFigure g) (withStretch f A g)
+unfolding withStretch
 with-piece-good on s a (draw-segment {p} {q} h) = good-map on (on-line-turn p q) (pieces-good a (segment-fair h))
 with-piece-good on s a (draw-ray {p} {q} h) = good-map on (on-line-turn p q) (pieces-good a (ray-fair h))
 with-piece-good on s a (draw-line {p} {q} h) = good-map on (on-line-turn p q) (pieces-good a (line-fair h))

@@ -5,7 +5,7 @@ use lib.Signed.{ltZ, leZ}
 use Rattle.whole.specs.Sign.{sgn}
 use Rattle.sheet.specs.declared.Object.{Object}
 use Rattle.sheet.specs.declared.Point.{Point}
-use Rattle.sheet.specs.Figure.{Vec, _⇀_, Side, left, bottom, right, top, Figure, segment, ray, line, side, figure}
+use Rattle.sheet.specs.Figure.{Vec, _⇀_, Side, left, bottom, right, top, Figure, segment, ray, line, side, figure, figureOf}
 use Rattle.sheet.specs.Points.{size, given, divided}
 
 -- "k = dx py - dy px"
@@ -66,9 +66,9 @@ lastOf (line p q) = farEnd p (p ⇀ q)
 lastOf (side n) = begins (nextSide n)
 
 unfoldable pub firstEnd : Object → Point
-unfolding figure
+unfolding figureOf
 firstEnd o = firstOf (figure o)
 
 unfoldable pub lastEnd : Object → Point
-unfolding figure
+unfolding figureOf
 lastEnd o = lastOf (figure o)

@@ -23,7 +23,8 @@ use Rattle.whole.specs.Reify.{reify, reading, solve, val-pos}
 use Rattle.whole.specs.Order.{Tri, tri, less, same, more, nn-pos, pp-pos, le-or-lt, le-cert, pp-nn, ≤-trans, ≤-<-trans, ≤-of, <-≤}
 use Rattle.whole.specs.Sign.{sgn}
 use Rattle.whole.specs.SignLaws.{Signs, signs, minus, nought, plus, sgn-abs, neg-pp, size-above}
-use Rattle.whole.specs.Bound.{Within, w-is, w-size, w-sub, w-mul, w-neg, w-sgn, w-pos, w-lit}
+use Rattle.whole.specs.Within.{Within}
+use Rattle.whole.specs.Bound.{w-is, w-size, w-sub, w-mul, w-neg, w-sgn, w-pos, w-lit}
 use Rattle.whole.specs.Tests.{lt-ltZ, le-ltZ, le-leZ, lt-leZ}
 use Rattle.sheet.specs.declared.Object.{Object}
 use Rattle.sheet.specs.declared.Point.{Point}
@@ -31,8 +32,9 @@ use Rattle.sheet.specs.Figure.{Vec, _⇀_, Side, left, bottom, right, to
 use Rattle.sheet.specs.Refusal.{Accepted}
 use Rattle.sheet.specs.Points.{size, given, divisor, isPoint, narrow}
 use Rattle.sheet.specs.Ends.{moment, flat, steep, farRaw, farEnd, reverse, corner, begins, nextSide, firstOf, lastOf, firstEnd, lastEnd}
-use Rattle.sheet.specs.RefusalLaws.{Small, Proper, Drawn, draw-segment, draw-ray, draw-line, draw-side, accepted-drawn}
-use Rattle.sheet.specs.PointsLaws.{divides-w, divided-one, Narrow, InSquare, inner, on, beside, Frame, APoint, a-standard, a-frame, narrow-is, point-is, frame-divided}
+use Rattle.sheet.specs.RefusalLaws.{WithinBoth, Proper, Drawn, draw-segment, draw-ray, draw-line, draw-side, accepted-drawn}
+use Rattle.sheet.specs.PointFacts.{Narrow, InSquare, inner, on, beside, Frame, APoint, a-standard, a-frame}
+use Rattle.sheet.specs.PointsLaws.{divides-w, divided-one, narrow-is, point-is, frame-divided}
 
 -- ---- which form the far end has
 
@@ -171,7 +173,7 @@ unit-divisor p e = only (divisor p) (subst (λ (z : ℤ). divisor p ∣ natAbs z
         let k = pos-of-dvd-of-pos d z in
         omega arith
 
-pub given-fine : {a : Vec} → Small 2000 a → Fine (given a)
+pub given-fine : {a : Vec} → WithinBoth 2000 a → Fine (given a)
 given-fine {a} s = record {
   point = a-standard (record {
     no-mx = refl;

@@ -14,8 +14,9 @@ use Rattle.whole.specs.Ring.{Expr, var, lit, _⊕_, _⊖_, _⊗_, ⊝_, ring}
 use Rattle.whole.specs.Sign.{sgn}
 use Rattle.whole.specs.SignLaws.{sgn-mul-pos, sgn-zero}
 use Rattle.whole.specs.Order.{pp-pos}
-use Rattle.whole.specs.Poly.{first, leading}
-use Rattle.whole.specs.PolyLaws.{first-zero-right}
+use Rattle.whole.specs.Poly.{leading}
+use Rattle.whole.specs.Choice.{orElse}
+use Rattle.whole.specs.ChoiceLaws.{or-zero-right}
 use Rattle.sheet.specs.declared.Object.{Object}
 use Rattle.sheet.specs.declared.Point.{Point}
 use Rattle.sheet.specs.Figure.{Vec, _⇀_, Side, left, bottom, right, top, outX, outY, Figure, side, figure}
@@ -26,12 +27,12 @@ use Rattle.sheet.specs.Signs.{order, turnPoly, turn, sideOfFigure, sideS
 -- ---- order
 
 abbrev pub orderX : Point → Point → ℤ
-orderX p q = first (sgn (p .mx *ℤ q .w -ℤ q .mx *ℤ p .w)) (sgn (p .nx *ℤ q .w -ℤ q .nx *ℤ p .w))
+orderX p q = orElse (sgn (p .mx *ℤ q .w -ℤ q .mx *ℤ p .w)) (sgn (p .nx *ℤ q .w -ℤ q .nx *ℤ p .w))
 
 abbrev pub orderY : Point → Point → ℤ
-orderY p q = first (sgn (p .my *ℤ q .w -ℤ q .my *ℤ p .w)) (sgn (p .ny *ℤ q .w -ℤ q .ny *ℤ p .w))
+orderY p q = orElse (sgn (p .my *ℤ q .w -ℤ q .my *ℤ p .w)) (sgn (p .ny *ℤ q .w -ℤ q .ny *ℤ p .w))
 
-pub order-is : (p q : Point) → order p q ≡ first (orderX p q) (orderY p q)
+pub order-is : (p q : Point) → order p q ≡ orElse (orderX p q) (orderY p q)
 unfolding order
 order-is p q = simp +ℤ-idr
 
@@ -59,14 +60,14 @@ pub turn-poly-is : (p q s : Point) → turnPoly p q s ≡ turnC p q s ∷ turnB 
 unfolding turnPoly
 turn-poly-is p q s = simp +ℤ-idr
 
-pub turn-is : (p q s : Point) → turn p q s ≡ first (first (sgn (turnA p q s)) (sgn (turnB p q s))) (sgn (turnC p q s))
+pub turn-is : (p q s : Point) → turn p q s ≡ orElse (orElse (sgn (turnA p q s)) (sgn (turnB p q s))) (sgn (turnC p q s))
 unfolding turn
 turn-is p q s = ap leading (turn-poly-is p q s)
 
 -- from the three coefficients in other words
 pub turn-by : (p q s : Point) {a b c : ℤ} → turnA p q s ≡ a → turnB p q s ≡ b → turnC p q s ≡ c
-    → turn p q s ≡ first (first (sgn a) (sgn b)) (sgn c)
-turn-by p q s e f g = turn-is p q s ∙ (λ i. first (first (sgn (e i)) (sgn (f i))) (sgn (g i)))
+    → turn p q s ≡ orElse (orElse (sgn a) (sgn b)) (sgn c)
+turn-by p q s e f g = turn-is p q s ∙ (λ i. orElse (orElse (sgn (e i)) (sgn (f i))) (sgn (g i)))
 
 -- ---- the same three as expressions, so that literals among their numbers are no matter
 
@@ -118,24 +119,24 @@ module _ (p q : Vec) (s : Point) where
   abbrev pub sideC : ℤ
   sideC = (p ⇀ q) .x *ℤ s .ny -ℤ (p ⇀ q) .y *ℤ s .nx -ℤ s .w *ℤ moment p (p ⇀ q)
 
-  pub pair-side-is : turn (given p) (given q) s ≡ first (sgn sideB) (sgn sideC)
+  pub pair-side-is : turn (given p) (given q) s ≡ orElse (sgn sideB) (sgn sideC)
   pair-side-is =
       let ρ = s .mx ∷ s .nx ∷ s .my ∷ s .ny ∷ s .w ∷ p .x ∷ p .y ∷ q .x ∷ q .y ∷ [] in
       turn-by (given p) (given q) s
       (ring ρ (eA pE qE pointE) (lit 0) tt)
       (ring ρ (eB pE qE pointE) (dxE ⊗ var 2 ⊖ dyE ⊗ var 0) tt)
       (ring ρ (eC pE qE pointE) (dxE ⊗ var 3 ⊖ dyE ⊗ var 1 ⊖ var 4 ⊗ (dxE ⊗ var 6 ⊖ dyE ⊗ var 5)) tt)
-      ∙ ap (λ (u : ℤ). first (first u (sgn sideB)) (sgn sideC)) sgn-zero
+      ∙ ap (λ (u : ℤ). orElse (orElse u (sgn sideB)) (sgn sideC)) sgn-zero
 
 -- ---- the side of each frame side
 
 -- the corners are a side of length 2 R apart
 module _ (p q s : Point) (a b : ℤ) where
-  twice : turnA p q s ≡ a *ℤ pos 2 → turnB p q s ≡ b *ℤ pos 2 → turnC p q s ≡ pos 0 → turn p q s ≡ first (sgn a) (sgn b)
+  twice : turnA p q s ≡ a *ℤ pos 2 → turnB p q s ≡ b *ℤ pos 2 → turnC p q s ≡ pos 0 → turn p q s ≡ orElse (sgn a) (sgn b)
   twice e f g =
       turn-by p q s e f g
-      ∙ (λ i. first (first (sgn-mul-pos a (pos 2) (pp-pos 1) i) (sgn-mul-pos b (pos 2) (pp-pos 1) i)) (sgn-zero i))
-      ∙ first-zero-right (first (sgn a) (sgn b))
+      ∙ (λ i. orElse (orElse (sgn-mul-pos a (pos 2) (pp-pos 1) i) (sgn-mul-pos b (pos 2) (pp-pos 1) i)) (sgn-zero i))
+      ∙ or-zero-right (orElse (sgn a) (sgn b))
 
 -- the corner at (mx R, my R)
 abbrev cornerE : Expr → Expr → PointE
@@ -157,28 +158,28 @@ module _ (s : Point) where
   abbrev ρ : List ℤ
   ρ = s .mx ∷ s .nx ∷ s .my ∷ s .ny ∷ s .w ∷ []
 
-  pub left-side-is : sideOfFigure (side left) s ≡ first (sgn (s .mx +ℤ s .w)) (sgn (s .nx))
+  pub left-side-is : sideOfFigure (side left) s ≡ orElse (sgn (s .mx +ℤ s .w)) (sgn (s .nx))
   left-side-is =
       twice (begins left) (begins bottom) s (s .mx +ℤ s .w) (s .nx)
       (ring ρ (eA leftTop leftBottom pointE) ((var 0 ⊕ var 4) ⊗ lit 2) tt)
       (ring ρ (eB leftTop leftBottom pointE) (var 1 ⊗ lit 2) tt)
       (ring ρ (eC leftTop leftBottom pointE) (lit 0) tt)
 
-  pub bottom-side-is : sideOfFigure (side bottom) s ≡ first (sgn (s .my +ℤ s .w)) (sgn (s .ny))
+  pub bottom-side-is : sideOfFigure (side bottom) s ≡ orElse (sgn (s .my +ℤ s .w)) (sgn (s .ny))
   bottom-side-is =
       twice (begins bottom) (begins right) s (s .my +ℤ s .w) (s .ny)
       (ring ρ (eA leftBottom rightBottom pointE) ((var 2 ⊕ var 4) ⊗ lit 2) tt)
       (ring ρ (eB leftBottom rightBottom pointE) (var 3 ⊗ lit 2) tt)
       (ring ρ (eC leftBottom rightBottom pointE) (lit 0) tt)
 
-  pub right-side-is : sideOfFigure (side right) s ≡ first (sgn (s .w -ℤ s .mx)) (sgn (negℤ (s .nx)))
+  pub right-side-is : sideOfFigure (side right) s ≡ orElse (sgn (s .w -ℤ s .mx)) (sgn (negℤ (s .nx)))
   right-side-is =
       twice (begins right) (begins top) s (s .w -ℤ s .mx) (negℤ (s .nx))
       (ring ρ (eA rightBottom rightTop pointE) ((var 4 ⊖ var 0) ⊗ lit 2) tt)
       (ring ρ (eB rightBottom rightTop pointE) (⊝ var 1 ⊗ lit 2) tt)
       (ring ρ (eC rightBottom rightTop pointE) (lit 0) tt)
 
-  pub top-side-is : sideOfFigure (side top) s ≡ first (sgn (s .w -ℤ s .my)) (sgn (negℤ (s .ny)))
+  pub top-side-is : sideOfFigure (side top) s ≡ orElse (sgn (s .w -ℤ s .my)) (sgn (negℤ (s .ny)))
   top-side-is =
       twice (begins top) (begins left) s (s .w -ℤ s .my) (negℤ (s .ny))
       (ring ρ (eA rightTop leftTop pointE) ((var 4 ⊖ var 2) ⊗ lit 2) tt)
@@ -193,19 +194,19 @@ module _ (s : Point) where
   awayN a b = ⊝ (a ⊗ var 1 ⊕ b ⊗ var 3)
 
   pub frame-side-is : (n : Side) → sideOfFigure (side n) s
-      ≡ first (sgn (s .w -ℤ (outX n *ℤ s .mx +ℤ outY n *ℤ s .my))) (sgn (negℤ (outX n *ℤ s .nx +ℤ outY n *ℤ s .ny)))
+      ≡ orElse (sgn (s .w -ℤ (outX n *ℤ s .mx +ℤ outY n *ℤ s .my))) (sgn (negℤ (outX n *ℤ s .nx +ℤ outY n *ℤ s .ny)))
   frame-side-is left =
       left-side-is
-      ∙ (λ i. first (sgn (ring ρ (var 0 ⊕ var 4) (awayM (⊝ lit 1) (lit 0)) tt i)) (sgn (ring ρ (var 1) (awayN (⊝ lit 1) (lit 0)) tt i)))
+      ∙ (λ i. orElse (sgn (ring ρ (var 0 ⊕ var 4) (awayM (⊝ lit 1) (lit 0)) tt i)) (sgn (ring ρ (var 1) (awayN (⊝ lit 1) (lit 0)) tt i)))
   frame-side-is bottom =
       bottom-side-is
-      ∙ (λ i. first (sgn (ring ρ (var 2 ⊕ var 4) (awayM (lit 0) (⊝ lit 1)) tt i)) (sgn (ring ρ (var 3) (awayN (lit 0) (⊝ lit 1)) tt i)))
+      ∙ (λ i. orElse (sgn (ring ρ (var 2 ⊕ var 4) (awayM (lit 0) (⊝ lit 1)) tt i)) (sgn (ring ρ (var 3) (awayN (lit 0) (⊝ lit 1)) tt i)))
   frame-side-is right =
       right-side-is
-      ∙ (λ i. first (sgn (ring ρ (var 4 ⊖ var 0) (awayM (lit 1) (lit 0)) tt i)) (sgn (ring ρ (⊝ var 1) (awayN (lit 1) (lit 0)) tt i)))
+      ∙ (λ i. orElse (sgn (ring ρ (var 4 ⊖ var 0) (awayM (lit 1) (lit 0)) tt i)) (sgn (ring ρ (⊝ var 1) (awayN (lit 1) (lit 0)) tt i)))
   frame-side-is top =
       top-side-is
-      ∙ (λ i. first (sgn (ring ρ (var 4 ⊖ var 2) (awayM (lit 0) (lit 1)) tt i)) (sgn (ring ρ (⊝ var 3) (awayN (lit 0) (lit 1)) tt i)))
+      ∙ (λ i. orElse (sgn (ring ρ (var 4 ⊖ var 2) (awayM (lit 0) (lit 1)) tt i)) (sgn (ring ρ (⊝ var 3) (awayN (lit 0) (lit 1)) tt i)))
 
 -- ---- of an object whose figure is known
 

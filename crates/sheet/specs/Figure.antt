@@ -9,6 +9,10 @@ pub record Vec : Type 0 where
   pub x : ℤ
   pub y : ℤ
 
+-- of two numbers
+abbrev pub vec : ℤ → ℤ → Vec
+vec x y = record { x = x; y = y }
+
 -- from p to q
 abbrev pub _⇀_ : Vec → Vec → Vec
 p ⇀ q = record { x = q .x -ℤ p .x; y = q .y -ℤ p .y }
@@ -46,14 +50,18 @@ pub data Figure : Type 0 where
 unfoldable pub sideOf : ℤ → Side
 sideOf n = cond (eqZ n (pos 1)) left (cond (eqZ n (pos 2)) bottom (cond (eqZ n (pos 3)) right top))
 
+-- the figure of an object's numbers
+unfoldable pub figureOf : ℤ → ℤ → ℤ → ℤ → ℤ → Figure
+figureOf kind px py qx qy =
+    cond (eqZ kind (pos 1)) (segment (vec px py) (vec qx qy))
+    (cond (eqZ kind (pos 2)) (ray (vec px py) (vec qx qy))
+    (cond (eqZ kind (pos 3)) (line (vec px py) (vec qx qy)) (side (sideOf px))))
+
 abbrev pub first : Object → Vec
-first o = record { x = o .px; y = o .py }
+first o = vec (o .px) (o .py)
 
 abbrev pub second : Object → Vec
-second o = record { x = o .qx; y = o .qy }
+second o = vec (o .qx) (o .qy)
 
-unfoldable pub figure : Object → Figure
-figure o =
-    cond (eqZ (o .kind) (pos 1)) (segment (first o) (second o))
-    (cond (eqZ (o .kind) (pos 2)) (ray (first o) (second o))
-    (cond (eqZ (o .kind) (pos 3)) (line (first o) (second o)) (side (sideOf (o .px)))))
+abbrev pub figure : Object → Figure
+figure o = figureOf (o .kind) (o .px) (o .py) (o .qx) (o .qy)

@@ -9,18 +9,19 @@ use Rattle.whole.specs.Reify.{reify, reading, solve, val-pos}
 use Rattle.whole.specs.Cert.{z-eq, z-add, eq-cert}
 use Rattle.whole.specs.Sign.{sgn}
 use Rattle.whole.specs.SignLaws.{sgn-pos}
-use Rattle.whole.specs.Poly.{first}
+use Rattle.whole.specs.Choice.{orElse}
 use Rattle.sheet.specs.declared.Point.{Point}
 use Rattle.sheet.specs.Figure.{Side, outX, outY, side}
 use Rattle.sheet.specs.Points.{standard}
-use Rattle.sheet.specs.PointsLaws.{Standard, standard-is}
+use Rattle.sheet.specs.PointFacts.{Standard}
+use Rattle.sheet.specs.PointsLaws.{standard-is}
 use Rattle.sheet.specs.Signs.{sideOfFigure}
 use Rattle.sheet.specs.Expansions.{frame-side-is}
 
 -- the way out over the side has no R in it, so the leading coefficient is w, which is above 0
 pub inside-is-left : (n : Side) (p : Point) → standard p ≡ true → sideOfFigure (side n) p ≡ pos 1
 inside-is-left n p h =
-    frame-side-is p n ∙ ap (λ (t : ℤ). first t (sgn (negℤ (outX n *ℤ p .nx +ℤ outY n *ℤ p .ny)))) (ap sgn no-R ∙ sgn-pos (s .in-w .above))
+    frame-side-is p n ∙ ap (λ (t : ℤ). orElse t (sgn (negℤ (outX n *ℤ p .nx +ℤ outY n *ℤ p .ny)))) (ap sgn no-R ∙ sgn-pos (s .in-w .above))
   where
     s : Standard p
     s = standard-is p .0 h

@@ -4,13 +4,13 @@
 use mathlib.Core.Path.{_≡_}
 use mathlib.Core.Bool.{cond}
 use mathlib.Core.List.{List, _++_}
-use Prim.Native.Nat.{ℕ, _+_}
+use Prim.Native.Nat.{ℕ, _+_, _-_, _^_, _≤_, min}
 use lib.Dec.{ltb}
 use lib.IntN.{ℤ, pos}
 use lib.ListN.{length, drop}
 use lib.Seq.{sets}
 use Rattle.whole.specs.Flag.{eqZ}
-use Rattle.sheet.specs.Signs.{orElse}
+use Rattle.whole.specs.Choice.{orElse}
 
 -- "10: the lent list or byte buffer is too short for the result"
 abbrev pub roomRefusal : ℤ → ℕ → ℕ → ℤ
@@ -29,8 +29,17 @@ abbrev pub filled : {A : Type 0} → ℤ → List A → List A → List A
 filled n result lent =
     cond (eqZ (roomRefusal n (length result) (length lent)) (pos 0)) (result ++ drop (length result) lent) lent
 
--- ---- the inner steps: a piece was put at a place of the lent cells, and `next` is the place behind it
+-- ---- the inner steps: a piece was put at a place as far as there are cells, every other cell is as it was, and `next` is the place behind it
+
+-- the largest place that a call can answer
+abbrev pub largest : ℕ
+largest = 2 ^ 64 - 1
+
+-- a place as a call answers it
+unfoldable pub clipped : ℕ → ℕ
+clipped n = min n largest
 
 pub record Wrote {A : Type 0} (before after : List A) (at next : ℕ) (piece : List A) : Type 0 where
   pub cells : after ≡ sets before at piece
-  pub place : next ≡ at + length piece
+  pub place : next ≡ clipped (at + length piece)
+  pub lent : length before ≤ largest

@@ -1,32 +1,18 @@
+-- what is to be believed
 pub mod Limits
 pub mod Figure
 pub mod Refusal
 pub mod RefusalTable
 pub mod Points
+pub mod PointFacts
 pub mod Ends
 pub mod Signs
 pub mod Circle
+pub mod Crossing
 pub mod Lists
 pub mod Lent
-pub mod Crossing
 pub mod Answers
-pub mod AnswersLaws
-pub mod Flags
-pub mod RefusalLaws
-pub mod Expansions
-pub mod PointsLaws
-pub mod EndsLaws
-pub mod SignsLaws
-pub mod ReversedLaws
-pub mod InsideLaws
-pub mod AcceptsLaws
-pub mod CircleLaws
-pub mod Angles
-pub mod RefusalTableLaws
-pub mod OnLine
-pub mod CrossingLaws
-pub mod ListsLaws
-pub mod LentLaws
+-- worked on them
 pub mod Cases
 pub mod WorkedObjects
 pub mod WorkedPoints
@@ -34,3 +20,26 @@ pub mod WorkedRefusals
 pub mod WorkedAnswers
 pub mod WorkedReach
 pub mod WorkedCircle
+-- laws: objects and points
+pub mod Flags
+pub mod RefusalLaws
+pub mod PointsLaws
+pub mod AcceptsLaws
+-- laws: ends
+pub mod EndsLaws
+-- laws: signs
+pub mod SignsLaws
+pub mod Expansions
+pub mod ReversedLaws
+pub mod InsideLaws
+-- laws: the side of circle
+pub mod CircleLaws
+pub mod Angles
+-- laws: crossing
+pub mod OnLine
+pub mod CrossingLaws
+-- laws: lists and answers
+pub mod ListsLaws
+pub mod LentLaws
+pub mod AnswersLaws
+pub mod RefusalTableLaws

@@ -8,15 +8,19 @@ use lib.ListN.{length, getD}
 use Rattle.sheet.specs.declared.Object.{Object}
 use Rattle.sheet.specs.Limits.{most}
 use Rattle.sheet.specs.Refusal.{objectRefusal}
-use Rattle.sheet.specs.Signs.{orElse}
+use Rattle.whole.specs.Choice.{orElse}
+use Rattle.whole.specs.InTurn.{inTurn}
 
 -- "each of five whole numbers": the numbers of an object in a list
 abbrev pub width : ℕ
 width = 5
 
--- "Each row is eight numbers": those of a row of a listing
+-- "Each row is eight numbers": those that say what a pair shares, and all of a row of a listing
+abbrev pub shareWidth : ℕ
+shareWidth = 8
+
 abbrev pub rowWidth : ℕ
-rowWidth = 8
+rowWidth = shareWidth
 
 abbrev pub countOf : List ℤ → ℕ
 countOf l = length l / width
@@ -40,9 +44,8 @@ abbrev pub objectAt : List ℤ → ℕ → Object
 objectAt l i = objectFrom l (i * width)
 
 -- "in turn": the first of n numbers f 0, f 1, .. that is not 0; 0 for none
-unfoldable pub firstRefusal : (ℕ → ℤ) → ℕ → ℤ
-firstRefusal f zero = pos 0
-firstRefusal f (suc n) = orElse (firstRefusal f n) (f n)
+abbrev pub firstRefusal : (ℕ → ℤ) → ℕ → ℤ
+firstRefusal f n = inTurn orElse (pos 0) f n
 
 -- "each object in turn": the first n objects of a list
 abbrev pub objectsRefusal : List ℤ → ℕ → ℤ

@@ -4,7 +4,7 @@
 --   one-accepted, one-refused       one more object in turn
 --   Listable, listable, is-listable what a list that is not refused has, and only such a list: no number over, few objects, each accepted
 --   from-accepted                   the object at each place of such a list is accepted
---   object-drop, object-next        the objects of the rest of a list
+--   object-drop, object-next        the objects of the rest of a list;  object-past   past its end
 --   index-below                     an index that is not refused is below the count
 -- Assumes nothing.
 use mathlib.Core.Path.{_≡_, refl, sym, ap, subst, _∙_}
@@ -16,37 +16,38 @@ use native.Mathlib.Decide.{le-ind}
 use native.Mathlib.Omega.{arith}
 use lib.Dec.{eqb, ltb}
 use lib.IntN.{ℤ, pos}
-use lib.ListN.{length, getD, drop}
+use lib.ListN.{length, getD, drop, List·getD-eq-default}
 use lib.Seq.{getD-drop}
 use borrow.Author.Tests.{ltb-true, ltb-false, le-ltb, eq-eqb, eqb-true}
+use Rattle.whole.specs.InTurn.{inTurn}
 use Rattle.whole.specs.Tests.{eq-eqZ, ne-eqZ}
 use Rattle.sheet.specs.Limits.{most}
 use Rattle.sheet.specs.Refusal.{objectRefusal, Accepted}
-use Rattle.sheet.specs.Signs.{orElse}
-use Rattle.sheet.specs.AnswersLaws.{or-zero}
+use Rattle.whole.specs.Choice.{orElse}
+use Rattle.whole.specs.ChoiceLaws.{or-zero}
 use Rattle.sheet.specs.Lists.{width, countOf, objectFrom, objectAt, firstRefusal, objectsRefusal, listRefusal, indexRefusal}
 
 -- ---- in turn
 
 module _ (f : ℕ → ℤ) where
   pub first-more : (n : ℕ) → firstRefusal f (n + 1) ≡ orElse (firstRefusal f n) (f n)
-  unfolding firstRefusal
+  unfolding inTurn
   first-more n = ap (firstRefusal f) (add-one n)
 
   pub first-stays : (n m : ℕ) → n ≤ m → (firstRefusal f n ≡ pos 0 → ⊥) → firstRefusal f m ≡ firstRefusal f n
-  unfolding firstRefusal
+  unfolding inTurn
   first-stays n m h d = le-ind (λ k. firstRefusal f k ≡ firstRefusal f n) refl (λ k _ e. step k e) m h
     where
       step : (k : ℕ) → firstRefusal f k ≡ firstRefusal f n → firstRefusal f (suc k) ≡ firstRefusal f n
       step k e = let g = ne-eqZ {a = firstRefusal f k} {b = pos 0} (λ z. d (sym e ∙ z)) in simp g e
 
   pub first-none : (n : ℕ) → ((i : ℕ) → i < n → f i ≡ pos 0) → firstRefusal f n ≡ pos 0
-  unfolding firstRefusal
+  unfolding inTurn
   first-none zero h = refl
   first-none (suc n) h = simp (eq-eqZ (first-none n (λ i k. h i (omega arith)))) (h n (omega arith))
 
   pub none-first : (n : ℕ) → firstRefusal f n ≡ pos 0 → (i : ℕ) → i < n → f i ≡ pos 0
-  unfolding firstRefusal
+  unfolding inTurn
   none-first n z i h = or-zero (firstRefusal f i) (f i) (front (suc i) h) .1
     where
       front : (k : ℕ) → k ≤ n → firstRefusal f k ≡ pos 0
@@ -111,6 +112,17 @@ object-drop l at k =
   where
     further : (j : ℕ) → getD (drop at l) (k + j) (pos 0) ≡ getD l (at + k + j) (pos 0)
     further j = let e : at + (k + j) ≡ at + k + j = omega arith in getD-drop at l (k + j) (pos 0) ∙ ap (λ (m : ℕ). getD l m (pos 0)) e
+
+-- past the end every number is 0
+pub object-past : (l : List ℤ) {at at′ : ℕ} → length l ≤ at → length l ≤ at′ → objectFrom l at ≡ objectFrom l at′
+object-past l {at} {at′} h h′ =
+    λ i. record { kind = (past h ∙ sym (past h′)) i; px = further 1 i; py = further 2 i; qx = further 3 i; qy = further 4 i }
+  where
+    past : {k : ℕ} → length l ≤ k → getD l k (pos 0) ≡ pos 0
+    past h = List·getD-eq-default l (pos 0) h
+
+    further : (j : ℕ) → getD l (at + j) (pos 0) ≡ getD l (at′ + j) (pos 0)
+    further j = past (omega arith) ∙ sym (past (omega arith))
 
 pub object-next : (l : List ℤ) (i : ℕ) → objectAt (drop width l) i ≡ objectAt l (suc i)
 object-next l i = let e : width + i * width ≡ suc i * width = omega arith in object-drop l width (i * width) ∙ ap (objectFrom l) e

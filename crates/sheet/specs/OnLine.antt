@@ -16,7 +16,7 @@ use Rattle.whole.specs.Reify.{reify, reading, solve, val-pos, val-negsuc}
 use Rattle.whole.specs.Cert.{z-eq, z-add, eq-cert, zero-cancel}
 use Rattle.whole.specs.Sign.{sgn}
 use Rattle.whole.specs.SignLaws.{sgn-zero, sgn-abs, sgn-mul-self, size-above}
-use Rattle.whole.specs.Poly.{first}
+use Rattle.whole.specs.Choice.{orElse}
 use Rattle.sheet.specs.declared.Point.{Point}
 use Rattle.sheet.specs.Figure.{Vec, _⇀_, Side, outX, outY, side}
 use Rattle.sheet.specs.Points.{size, given, divided, divisor}
@@ -47,8 +47,8 @@ pub record OnLine (p d : Vec) (e : Point) : Type 0 where
   pub level : d .x *ℤ e .my -ℤ d .y *ℤ e .mx ≡ pos 0
   pub even : d .x *ℤ e .ny -ℤ d .y *ℤ e .nx -ℤ e .w *ℤ moment p d ≡ pos 0
 
-pub both-zero : {a b : ℤ} → a ≡ pos 0 → b ≡ pos 0 → first (sgn a) (sgn b) ≡ pos 0
-both-zero h k = λ i. first ((ap sgn h ∙ sgn-zero) i) ((ap sgn k ∙ sgn-zero) i)
+pub both-zero : {a b : ℤ} → a ≡ pos 0 → b ≡ pos 0 → orElse (sgn a) (sgn b) ≡ pos 0
+both-zero h k = λ i. orElse ((ap sgn h ∙ sgn-zero) i) ((ap sgn k ∙ sgn-zero) i)
 
 pub on-line-turn : (p q : Vec) (e : Point) → OnLine p (p ⇀ q) e → turn (given p) (given q) e ≡ pos 0
 on-line-turn p q e h = pair-side-is p q e ∙ both-zero (h .level) (h .even)

@@ -1,10 +1,10 @@
 -- Points: the common divisor going out, and what the Boolean definitions say. To cite:
 --   Times, divided-back      each number of p is the divisor times that of `divided p`
 --   divides-w, divisor-above, divided-above, divided-one      the divisor is above 0; w stays above 0; the divisor is then 1
---   Upto, Standard, Narrow, OnEdge, InSquare, Frame, APoint    the facts, in ℤ; reduced: the divisor of a point is 1
+--   reduced                  the divisor of a point is 1
 --   all-four                 four flags together
 --   narrow-is, standard-is, edge-is, in-square-is, frame-is, point-is
---                            each definition is true exactly where they hold: `.0` reads, `.1` introduces
+--                            each definition of Points is true exactly where the facts of PointFacts hold: `.0` reads, `.1` introduces
 --   narrow-divided, frame-divided, standard-divided      the facts survive the division
 --   square-within, Sizes, frame-sizes, point-sizes       bounds for all five numbers
 --   in-proportion            two points whose numbers are in proportion are equal
@@ -23,13 +23,15 @@ use Rattle.whole.specs.Order.{nn-pos, pp-dest, ≤-trans, ≤-<-trans, <-≤-tr
 use Rattle.whole.specs.Cert.{pp-cancel, mul-cancel, <-cancel, zero-cancel}
 use Rattle.whole.specs.Sign.{sgn}
 use Rattle.whole.specs.SignLaws.{sgn-mul-pos}
-use Rattle.whole.specs.Bound.{Within, w-is, w-intro, w-upper, w-lower, w-pos, w-lit, w-quot, natAbs-mul}
+use Rattle.whole.specs.Within.{Within}
+use Rattle.whole.specs.Bound.{w-is, w-intro, w-upper, w-lower, w-pos, w-lit, w-quot, natAbs-mul}
 use Rattle.whole.specs.Flag.{eqZ}
 use Rattle.whole.specs.Divisor.{DividesAll, none, _also_}
 use Rattle.whole.specs.DivisorLaws.{gcdOf-is, gcdOf-above, over-back, over-one, same-numbers}
 use Rattle.sheet.specs.declared.Point.{Point}
 use Rattle.sheet.specs.Limits.{standardWSize, standardNSize}
 use Rattle.sheet.specs.Points.{numbers, divisor, divided, size, standard, edge, inSquare, narrow, frame, isPoint}
+use Rattle.sheet.specs.PointFacts.{Upto, Narrow, Standard, OnEdge, InSquare, inner, on, beside, Frame, APoint, a-standard, a-frame}
 use Rattle.sheet.specs.Flags.{both, either, eqb-is, flags}
 use Rattle.sheet.specs.AnswersLaws.{point-one}
 
@@ -79,45 +81,6 @@ module _ (p : Point) (h : pos 0 <ℤ p .w) where
   divided-one = over-one (numbers p) above
 
 -- ---- the facts behind the definitions
-
--- w is above 0 and at most n
-pub record Upto (n : ℕ) (w : ℤ) : Type 0 where
-  pub above : pos 0 <ℤ w
-  pub at-most : Within n w
-
--- "w at most 4,000, each n within 8,000,000"
-pub record Narrow (p : Point) : Type 0 where
-  pub in-w : Upto 4000 (p .w)
-  pub in-nx : Within 8000000 (p .nx)
-  pub in-ny : Within 8000000 (p .ny)
-
-pub record Standard (p : Point) : Type 0 where
-  pub no-mx : p .mx ≡ pos 0
-  pub no-my : p .my ≡ pos 0
-  pub in-w : Upto standardWSize (p .w)
-  pub in-nx : Within standardNSize (p .nx)
-  pub in-ny : Within standardNSize (p .ny)
-
--- "exactly R or -R (|m| = w and n = 0)"
-pub record OnEdge (m n w : ℤ) : Type 0 where
-  pub full : size m ≡ w
-  pub even : n ≡ pos 0
-
--- "|m| < w, or |m| = w with n = 0 or n of the sign opposite to m"
-pub data InSquare (m n w : ℤ) : Type 0 where
-  inner : size m <ℤ w → InSquare m n w
-  on : size m ≡ w → n ≡ pos 0 → InSquare m n w
-  beside : size m ≡ w → sgn n ≡ negℤ (sgn m) → InSquare m n w
-
-pub record Frame (p : Point) : Type 0 where
-  pub slim : Narrow p
-  pub on-edge : OnEdge (p .mx) (p .nx) (p .w) ⊎ OnEdge (p .my) (p .ny) (p .w)
-  pub in-x : InSquare (p .mx) (p .nx) (p .w)
-  pub in-y : InSquare (p .my) (p .ny) (p .w)
-
-pub data APoint (p : Point) : Type 0 where
-  a-standard : Standard p → divisor p ≡ 1 → APoint p
-  a-frame : Frame p → divisor p ≡ 1 → APoint p
 
 pub reduced : {p : Point} → APoint p → divisor p ≡ 1
 reduced (a-standard s e) = e

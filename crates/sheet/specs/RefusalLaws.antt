@@ -1,9 +1,11 @@
 -- What an accepted object is. To cite:
---   Small, Proper            both coordinates at most n; two given points within 2,000 that differ
---   Taken, accepted-taken    an accepted object by its kind: what figure it is, and what holds of its numbers
+--   WithinBoth, Proper            both coordinates at most n; two given points within 2,000 that differ
+--   kind-segment, kind-ray, kind-line, kind-side   the figure by the kind
+--   Shape, shape             five numbers that are not refused, by their kind: what figure they are, and what holds of them
+--   by-numbers               the numbers of an accepted object are not refused
+--   Taken, accepted-taken    an accepted object by its kind
 --   Drawn, accepted-drawn    a figure that a sheet takes: that of an accepted object
 --   pair-proper, side-proper, ASide   refusal 0 of a pair, of a side, and what its numbers are then;  side-of  the side of its own number
---   kind-segment, kind-ray, kind-line, kind-side   the figure by the kind
 -- Assumes nothing.
 use mathlib.Core.Path.{_≡_, refl, sym, _∙_, ap, subst}
 use mathlib.Core.Bool.{cond}
@@ -13,24 +15,25 @@ use lib.Dec.{leb→le}
 use lib.IntN.{ℤ, pos, _+ℤ_}
 use lib.Signed.{_≤ℤ_}
 use Rattle.whole.specs.Order.{le-dest}
-use Rattle.whole.specs.Bound.{Within, w-intro}
+use Rattle.whole.specs.Within.{Within}
+use Rattle.whole.specs.Bound.{w-intro}
 use Rattle.whole.specs.Flag.{eqZ}
 use Rattle.sheet.specs.declared.Object.{Object}
-use Rattle.sheet.specs.Figure.{Vec, Side, left, bottom, right, top, Figure, segment, ray, line, side, sideNumber, sideOf, first, second, figure}
-use Rattle.sheet.specs.Refusal.{pairRefusal, sideRefusal, objectRefusal, Accepted}
+use Rattle.sheet.specs.Figure.{Vec, Side, left, bottom, right, top, Figure, segment, ray, line, side, vec, sideNumber, sideOf, figure, figureOf}
+use Rattle.sheet.specs.Refusal.{pairRefusal, sideRefusal, refusalOf, objectRefusal, Accepted}
 use Rattle.sheet.specs.Flags.{flags}
 
 -- ---- two given points
 
 -- both coordinates are at most n
-pub record Small (n : ℕ) (a : Vec) : Type 0 where
+pub record WithinBoth (n : ℕ) (a : Vec) : Type 0 where
   pub in-x : Within n (a .x)
   pub in-y : Within n (a .y)
 
 -- "each coordinate is from -2,000 to 2,000, both included", and "p and q differ"
 pub record Proper (p q : Vec) : Type 0 where
-  pub small-p : Small 2000 p
-  pub small-q : Small 2000 q
+  pub small-p : WithinBoth 2000 p
+  pub small-q : WithinBoth 2000 q
   pub differ : p .x ≡ q .x → p .y ≡ q .y → ⊥
 
 pub pair-proper : (p q : Vec) → pairRefusal (p .x) (p .y) (q .x) (q .y) ≡ pos 0 → Proper p q
@@ -92,46 +95,57 @@ side-proper n a b c h =
 
 -- ---- the figure by the kind
 
-pub kind-segment : (o : Object) → o .kind ≡ pos 1 → figure o ≡ segment (first o) (second o)
-unfolding figure
-kind-segment o e = simp e
+module _ {kind : ℤ} (px py qx qy : ℤ) where
+  pub kind-segment : kind ≡ pos 1 → figureOf kind px py qx qy ≡ segment (vec px py) (vec qx qy)
+  unfolding figureOf
+  kind-segment e = simp e
 
-pub kind-ray : (o : Object) → o .kind ≡ pos 2 → figure o ≡ ray (first o) (second o)
-unfolding figure
-kind-ray o e = simp e
+  pub kind-ray : kind ≡ pos 2 → figureOf kind px py qx qy ≡ ray (vec px py) (vec qx qy)
+  unfolding figureOf
+  kind-ray e = simp e
 
-pub kind-line : (o : Object) → o .kind ≡ pos 3 → figure o ≡ line (first o) (second o)
-unfolding figure
-kind-line o e = simp e
+  pub kind-line : kind ≡ pos 3 → figureOf kind px py qx qy ≡ line (vec px py) (vec qx qy)
+  unfolding figureOf
+  kind-line e = simp e
 
-pub kind-side : (o : Object) → o .kind ≡ pos 4 → figure o ≡ side (sideOf (o .px))
-unfolding figure
-kind-side o e = simp e
+  pub kind-side : kind ≡ pos 4 → figureOf kind px py qx qy ≡ side (sideOf px)
+  unfolding figureOf
+  kind-side e = simp e
+
+-- ---- five numbers that are not refused
+
+pub data Shape (kind px py qx qy : ℤ) : Type 0 where
+  a-segment : kind ≡ pos 1 → figureOf kind px py qx qy ≡ segment (vec px py) (vec qx qy) → Proper (vec px py) (vec qx qy) → Shape kind px py qx qy
+  a-ray : kind ≡ pos 2 → figureOf kind px py qx qy ≡ ray (vec px py) (vec qx qy) → Proper (vec px py) (vec qx qy) → Shape kind px py qx qy
+  a-line : kind ≡ pos 3 → figureOf kind px py qx qy ≡ line (vec px py) (vec qx qy) → Proper (vec px py) (vec qx qy) → Shape kind px py qx qy
+  a-side : kind ≡ pos 4 → (s : ASide px py qx qy) → figureOf kind px py qx qy ≡ side (s .which) → Shape kind px py qx qy
+
+pub shape : {kind px py qx qy : ℤ} → refusalOf kind px py qx qy ≡ pos 0 → Shape kind px py qx qy
+shape {kind} {px} {py} {qx} {qy} h = let f = simp flags at h in go (one-to-four kind (f .0 .0) (f .0 .1)) (f .1)
+  where
+    proper : pairRefusal px py qx qy ≡ pos 0 → Proper (vec px py) (vec qx qy)
+    proper = pair-proper (vec px py) (vec qx qy)
+
+    go : OneToFour kind → cond (eqZ kind (pos 4)) (sideRefusal px py qx qy) (pairRefusal px py qx qy) ≡ pos 0 → Shape kind px py qx qy
+    go (is-1 e) r = a-segment e (kind-segment px py qx qy e) (proper (simp e at r))
+    go (is-2 e) r = a-ray e (kind-ray px py qx qy e) (proper (simp e at r))
+    go (is-3 e) r = a-line e (kind-line px py qx qy e) (proper (simp e at r))
+    go (is-4 e) r =
+        let s = side-proper px py qx qy (simp e at r) in
+        a-side e s (kind-side px py qx qy e ∙ ap (λ (n : ℤ). side (sideOf n)) (s .number) ∙ ap side (side-of (s .which)))
 
 -- ---- an accepted object
 
-pub data Taken (o : Object) : Type 0 where
-  a-segment : o .kind ≡ pos 1 → figure o ≡ segment (first o) (second o) → Proper (first o) (second o) → Taken o
-  a-ray : o .kind ≡ pos 2 → figure o ≡ ray (first o) (second o) → Proper (first o) (second o) → Taken o
-  a-line : o .kind ≡ pos 3 → figure o ≡ line (first o) (second o) → Proper (first o) (second o) → Taken o
-  a-side : o .kind ≡ pos 4 → (s : ASide (o .px) (o .py) (o .qx) (o .qy)) → figure o ≡ side (s .which) → Taken o
+-- from the object to its numbers: nothing else says that its refusal is theirs
+pub by-numbers : {o : Object} → Accepted o → refusalOf (o .kind) (o .px) (o .py) (o .qx) (o .qy) ≡ pos 0
+unfolding objectRefusal
+by-numbers a = a .accepted
+
+abbrev pub Taken : Object → Type 0
+Taken o = Shape (o .kind) (o .px) (o .py) (o .qx) (o .qy)
 
 pub accepted-taken : {o : Object} → Accepted o → Taken o
-unfolding objectRefusal
-accepted-taken {o} a = let f = simp flags at (a .accepted) in go (one-to-four (o .kind) (f .0 .0) (f .0 .1)) (f .1)
-  where
-    proper : pairRefusal (o .px) (o .py) (o .qx) (o .qy) ≡ pos 0 → Proper (first o) (second o)
-    proper = pair-proper (first o) (second o)
-
-    go : OneToFour (o .kind)
-        → cond (eqZ (o .kind) (pos 4)) (sideRefusal (o .px) (o .py) (o .qx) (o .qy)) (pairRefusal (o .px) (o .py) (o .qx) (o .qy)) ≡ pos 0
-        → Taken o
-    go (is-1 e) r = a-segment e (kind-segment o e) (proper (simp e at r))
-    go (is-2 e) r = a-ray e (kind-ray o e) (proper (simp e at r))
-    go (is-3 e) r = a-line e (kind-line o e) (proper (simp e at r))
-    go (is-4 e) r =
-        let s = side-proper (o .px) (o .py) (o .qx) (o .qy) (simp e at r) in
-        a-side e s (kind-side o e ∙ ap (λ (n : ℤ). side (sideOf n)) (s .number) ∙ ap side (side-of (s .which)))
+accepted-taken a = shape (by-numbers a)
 
 -- ---- its figure
 

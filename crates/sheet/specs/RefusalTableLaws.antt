@@ -16,6 +16,7 @@ use borrow.Author.Tests.{eqb-true}
 use lib.Dec.{eqb, ltb}
 use lib.IntN.{ℤ, pos, natAbs}
 use lib.ListN.{length}
+use Rattle.whole.specs.InTurn.{inTurn}
 use Rattle.whole.specs.Flag.{eqZ}
 use Rattle.whole.specs.Tests.{cond-by, eqZ-true}
 use Rattle.sheet.specs.declared.Object.{Object}
@@ -25,7 +26,8 @@ use Rattle.sheet.specs.Flags.{both, either}
 use Rattle.sheet.specs.Refusal.{outside, anyBeyond, equal, noSide, pairRefusal, sideRefusal, objectRefusal}
 use Rattle.sheet.specs.RefusalTable.{among, OneOf, Known}
 use Rattle.sheet.specs.Points.{standard, isPoint, narrow, pointRefusal}
-use Rattle.sheet.specs.Signs.{orElse, orderRefusal, wideRefusal, turnRefusal, sideSignRefusal}
+use Rattle.sheet.specs.Signs.{orderRefusal, wideRefusal, turnRefusal, sideSignRefusal}
+use Rattle.whole.specs.Choice.{orElse}
 use Rattle.sheet.specs.Circle.{isGiven, givenRefusal, circleRefusal}
 use Rattle.sheet.specs.Crossing.{crossingRefusal}
 use Rattle.sheet.specs.Answers.{answer, refusalIn}
@@ -67,7 +69,7 @@ pub known-or : (n m : ℤ) → Known n → Known m → Known (orElse n m)
 known-or n m h k = cond-by Known (eqZ n (pos 0)) (λ e. k) (λ e. h)
 
 pub known-first : (f : ℕ → ℤ) → ((i : ℕ) → Known (f i)) → (n : ℕ) → Known (firstRefusal f n)
-unfolding firstRefusal
+unfolding inTurn
 known-first f h zero = one-of 0 refl
 known-first f h (suc n) = known-or (firstRefusal f n) (f n) (known-first f h n) (h n)
 

@@ -37,22 +37,22 @@ pub reversed-ends : (o : Object) → (o .kind ≡ pos 1) ⊎ (o .kind ≡ pos 3)
     → (firstEnd (reversed o) ≡ lastEnd o) × (lastEnd (reversed o) ≡ firstEnd o)
 unfolding firstEnd lastEnd
 reversed-ends o (inl e) =
-    let f = kind-segment o e in
-    let g = kind-segment (reversed o) e in
+    let f = kind-segment (o .px) (o .py) (o .qx) (o .qy) e in
+    let g = kind-segment (o .qx) (o .qy) (o .px) (o .py) e in
     (ap firstOf g ∙ sym (ap lastOf f), ap lastOf g ∙ sym (ap firstOf f))
 reversed-ends o (inr e) =
-    let f = kind-line o e in
-    let g = kind-line (reversed o) e in (
+    let f = kind-line (o .px) (o .py) (o .qx) (o .qy) e in
+    let g = kind-line (o .qx) (o .qy) (o .px) (o .py) e in (
       ap firstOf g ∙ far-same (first o) (second o) ∙ sym (ap lastOf f),
       ap lastOf g ∙ sym (far-same (second o) (first o)) ∙ sym (ap firstOf f),
     )
 
 pub reversed-side : (o : Object) → (o .kind ≡ pos 1) ⊎ (o .kind ≡ pos 3) → (s : Point) → sideSign (reversed o) s ≡ negℤ (sideSign o s)
 reversed-side o (inl e) s =
-    side-of-figure (reversed o) s (kind-segment (reversed o) e)
+    side-of-figure (reversed o) s (kind-segment (o .qx) (o .qy) (o .px) (o .py) e)
     ∙ turn-swap-first (given (first o)) (given (second o)) s
-    ∙ sym (ap negℤ (side-of-figure o s (kind-segment o e)))
+    ∙ sym (ap negℤ (side-of-figure o s (kind-segment (o .px) (o .py) (o .qx) (o .qy) e)))
 reversed-side o (inr e) s =
-    side-of-figure (reversed o) s (kind-line (reversed o) e)
+    side-of-figure (reversed o) s (kind-line (o .qx) (o .qy) (o .px) (o .py) e)
     ∙ turn-swap-first (given (first o)) (given (second o)) s
-    ∙ sym (ap negℤ (side-of-figure o s (kind-line o e)))
+    ∙ sym (ap negℤ (side-of-figure o s (kind-line (o .px) (o .py) (o .qx) (o .qy) e)))

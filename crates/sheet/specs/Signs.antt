@@ -1,18 +1,19 @@
 -- "Signs (document 002, 3.3 and 3.5)". Signs are -1, 0 or 1; `leading` is the sign of a polynomial in R.
 use mathlib.Core.Bool.{cond, _&&_}
 use lib.IntN.{ℤ, pos}
-use Rattle.whole.specs.Poly.{Poly, _⊞_, _⊟_, _⊠_, first, leading}
+use Rattle.whole.specs.Poly.{Poly, _⊞_, _⊟_, _⊠_, leading}
+use Rattle.whole.specs.Choice.{orElse}
 use Rattle.whole.specs.Flag.{eqZ}
 use Rattle.sheet.specs.declared.Object.{Object}
 use Rattle.sheet.specs.declared.Point.{Point}
-use Rattle.sheet.specs.Figure.{Figure, segment, ray, line, side, figure}
+use Rattle.sheet.specs.Figure.{Figure, segment, ray, line, side, figure, figureOf}
 use Rattle.sheet.specs.Refusal.{objectRefusal}
 use Rattle.sheet.specs.Points.{X, Y, W, narrow, pointRefusal, given}
 use Rattle.sheet.specs.Ends.{begins, nextSide}
 
 -- "Order of two points: x first, then y."
 unfoldable pub order : Point → Point → ℤ
-order p q = first (leading (X p ⊠ W q ⊟ X q ⊠ W p)) (leading (Y p ⊠ W q ⊟ Y q ⊠ W p))
+order p q = orElse (leading (X p ⊠ W q ⊟ X q ⊠ W p)) (leading (Y p ⊠ W q ⊟ Y q ⊠ W p))
 
 -- "w1(X2 Y3 - X3 Y2) - w2(X1 Y3 - X3 Y1) + w3(X1 Y2 - X2 Y1)"
 unfoldable pub turnPoly : Point → Point → Point → Poly
@@ -32,14 +33,10 @@ sideOfFigure (line p q) s = turn (given p) (given q) s
 sideOfFigure (side n) s = turn (begins n) (begins (nextSide n)) s
 
 unfoldable pub sideSign : Object → Point → ℤ
-unfolding figure
+unfolding figureOf
 sideSign o s = sideOfFigure (figure o) s
 
 -- ---- refusals
-
--- n, or m where n is 0: "the first one's, then the second's"
-abbrev pub orElse : ℤ → ℤ → ℤ
-orElse n m = cond (eqZ n (pos 0)) m n
 
 -- "Points: 5 for each in turn"
 unfoldable pub orderRefusal : Point → Point → ℤ

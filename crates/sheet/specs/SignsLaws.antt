@@ -21,9 +21,14 @@ use Rattle.whole.specs.Sign.{sgn}
 use Rattle.whole.specs.SignLaws.{Signs, signs, minus, nought, plus, sgn-pos, sgn-neg, sgn-neg-eq, sgn-zero, zero-of-sgn, neg-of-sgn}
 use Rattle.whole.specs.Fraction.{Fraction, AtMost}
 use Rattle.whole.specs.FractionLaws.{at-most-apart, less-apart, at-most-trans, less-at-most-trans}
-use Rattle.whole.specs.Poly.{Poly, value, _⊟_, _⊠_, first, leading}
-use Rattle.whole.specs.PolyLaws.{first-neg, first-zero, first-assoc, leading-opposite}
-use Rattle.whole.specs.Bound.{Within, w-sub, w-mul, w-pos, w-lit, w-sgn}
+use Rattle.whole.specs.Poly.{Poly, value, _⊟_, _⊠_, leading}
+use Rattle.whole.specs.Flag.{eqZ}
+use Rattle.whole.specs.Tests.{cond-by}
+use Rattle.whole.specs.Choice.{orElse}
+use Rattle.whole.specs.PolyLaws.{leading-opposite}
+use Rattle.whole.specs.ChoiceLaws.{or-neg, or-zero, or-assoc}
+use Rattle.whole.specs.Within.{Within}
+use Rattle.whole.specs.Bound.{w-sub, w-mul, w-pos, w-lit, w-sgn}
 use Rattle.whole.specs.Lead.{small, highest, _under_, lead}
 use Rattle.sheet.specs.declared.Object.{Object}
 use Rattle.sheet.specs.declared.Point.{Point}
@@ -31,7 +36,8 @@ use Rattle.sheet.specs.Figure.{Figure, segment, ray, line, side, figure}
 use Rattle.sheet.specs.Points.{X, Y, W, isPoint, given}
 use Rattle.sheet.specs.Ends.{begins, nextSide}
 use Rattle.sheet.specs.Signs.{order, turnPoly, turn, sideOfFigure, sideSign}
-use Rattle.sheet.specs.PointsLaws.{APoint, Sizes, point-is, point-sizes, in-proportion}
+use Rattle.sheet.specs.PointFacts.{APoint}
+use Rattle.sheet.specs.PointsLaws.{Sizes, point-is, point-sizes, in-proportion}
 use Rattle.sheet.specs.Expansions.{orderX, orderY, order-is, det, turnA, turnB, turnC, turn-poly-is}
 
 -- ---- order
@@ -40,16 +46,16 @@ use Rattle.sheet.specs.Expansions.{orderX, orderY, order-is, det, turnA,
 sgn-swap : (a b : ℤ) → sgn (b -ℤ a) ≡ negℤ (sgn (a -ℤ b))
 sgn-swap a b = ap sgn (reify (a ∷ b ∷ []) (λ ρ v. simp (reading, v 0, v 1) (solve _ _ _ tt))) ∙ sgn-neg-eq (a -ℤ b)
 
-axis-swap : (a b c d : ℤ) → first (sgn (b -ℤ a)) (sgn (d -ℤ c)) ≡ negℤ (first (sgn (a -ℤ b)) (sgn (c -ℤ d)))
-axis-swap a b c d = ap₂ first (sgn-swap a b) (sgn-swap c d) ∙ first-neg (sgn (a -ℤ b)) (sgn (c -ℤ d))
+axis-swap : (a b c d : ℤ) → orElse (sgn (b -ℤ a)) (sgn (d -ℤ c)) ≡ negℤ (orElse (sgn (a -ℤ b)) (sgn (c -ℤ d)))
+axis-swap a b c d = ap₂ orElse (sgn-swap a b) (sgn-swap c d) ∙ or-neg (sgn (a -ℤ b)) (sgn (c -ℤ d))
 
 pub order-swap : (p q : Point) → order q p ≡ negℤ (order p q)
 order-swap p q =
     order-is q p
-    ∙ ap₂ first
+    ∙ ap₂ orElse
     (axis-swap (p .mx *ℤ q .w) (q .mx *ℤ p .w) (p .nx *ℤ q .w) (q .nx *ℤ p .w))
     (axis-swap (p .my *ℤ q .w) (q .my *ℤ p .w) (p .ny *ℤ q .w) (q .ny *ℤ p .w))
-    ∙ first-neg (orderX p q) (orderY p q)
+    ∙ or-neg (orderX p q) (orderY p q)
     ∙ sym (ap negℤ (order-is p q))
 
 order-self : (p : Point) → order p p ≡ pos 0
@@ -58,9 +64,9 @@ order-self p = order-is p p ∙ simp (sub-self, sgn-zero)
 -- all four coordinates in proportion, and the divisors 1
 same-of-zero : (p q : Point) → APoint p → APoint q → order p q ≡ pos 0 → p ≡ q
 same-of-zero p q hp hq e =
-    let z = first-zero _ _ (sym (order-is p q) ∙ e) in
-    let x = first-zero _ _ (z .0) in
-    let y = first-zero _ _ (z .1) in
+    let z = or-zero _ _ (sym (order-is p q) ∙ e) in
+    let x = or-zero _ _ (z .0) in
+    let y = or-zero _ _ (z .1) in
     in-proportion hp hq (ratio (p .mx) (q .mx) (x .0)) (ratio (p .nx) (q .nx) (x .1)) (ratio (p .my) (q .my) (y .0)) (ratio (p .ny) (q .ny) (y .1))
   where
     ratio : (a b : ℤ) → sgn (a *ℤ q .w -ℤ b *ℤ p .w) ≡ pos 0 → q .w *ℤ a ≡ p .w *ℤ b
@@ -86,7 +92,7 @@ pub order-value : (p q : Point) → isPoint p ≡ true → isPoint q ≡ true �
 unfolding key
 order-value p q hp hq =
     order-is p q
-    ∙ first-assoc (orderX p q) (sgn (p .my *ℤ q .w -ℤ q .my *ℤ p .w)) (sgn (p .ny *ℤ q .w -ℤ q .ny *ℤ p .w))
+    ∙ or-assoc (orderX p q) (sgn (p .my *ℤ q .w -ℤ q .my *ℤ p .w)) (sgn (p .ny *ℤ q .w -ℤ q .ny *ℤ p .w))
     ∙ sym (lead base (small cy below under small my below under small cx below under highest))
     ∙ ap sgn (digitwise base (p .mx) (p .nx) (p .my) (p .ny) (p .w) (q .mx) (q .nx) (q .my) (q .ny) (q .w))
   where
@@ -219,18 +225,16 @@ module _ (p q : Point) where
 
 -- ---- "Signs are -1, 0 or 1"
 
-first-within : (s t : ℤ) → Within 1 s → Within 1 t → Within 1 (first s t)
-first-within (pos zero) t h k = k
-first-within (pos (suc n)) t h k = h
-first-within (negsuc n) t h k = h
+or-within : (s t : ℤ) → Within 1 s → Within 1 t → Within 1 (orElse s t)
+or-within s t h k = cond-by (Within 1) (eqZ s (pos 0)) (λ _. k) (λ _. h)
 
 pub leading-within : (P : Poly) → Within 1 (leading P)
 leading-within [] = w-lit (w-pos 0) tt
-leading-within (c ∷ P) = first-within (leading P) (sgn c) (leading-within P) (w-sgn c)
+leading-within (c ∷ P) = or-within (leading P) (sgn c) (leading-within P) (w-sgn c)
 
 pub order-within : (p q : Point) → Within 1 (order p q)
 unfolding order
-order-within p q = first-within _ _ (leading-within (X p ⊠ W q ⊟ X q ⊠ W p)) (leading-within (Y p ⊠ W q ⊟ Y q ⊠ W p))
+order-within p q = or-within _ _ (leading-within (X p ⊠ W q ⊟ X q ⊠ W p)) (leading-within (Y p ⊠ W q ⊟ Y q ⊠ W p))
 
 pub turn-within : (p q s : Point) → Within 1 (turn p q s)
 unfolding turn

@@ -12,12 +12,12 @@ use Rattle.sheet.specs.declared.Made.the-variants as made
 use Rattle.sheet.specs.declared.Ends.the-variants as ends
 use Rattle.sheet.specs.declared.Signed.the-variants as signed
 use Rattle.sheet.specs.declared.Crossing.the-variants as crossed
-use Rattle.sheet.specs.Figure.{sideNumber, sideOf, figure}
+use Rattle.sheet.specs.Figure.{sideNumber, sideOf, figureOf}
 use Rattle.sheet.specs.Figure as frame
 use Rattle.sheet.specs.Points.{divided}
 use Rattle.sheet.specs.Ends.{farRaw, farEnd, firstEnd, lastEnd}
 use Rattle.sheet.specs.Signs.{order, turnPoly, turn, sideSign}
-use Rattle.sheet.specs.Crossing.{none, many, pieces, withSide, withPiece, meeting, crossingOf}
+use Rattle.sheet.specs.Crossing.{none, many, stretches, withSide, withStretch, meeting, crossingOf}
 use Rattle.sheet.specs.Crossing as crossing
 use Rattle.sheet.specs.Answers.{madeSays, endsSay, signedSays, meetingNumbers, crossingSays}
 use Rattle.sheet.specs.Cases.{minus, segment, ray, line, side, point, at}
@@ -171,7 +171,7 @@ pub record WorkedAnswers : Type 0 where
       × (crossingOf (side (pos 4)) (side (pos 4)) ≡ many) × (crossingOf (side (pos 2)) (side (pos 4)) ≡ none)
 
 pub worked-answers : WorkedAnswers
-unfolding sgn steps gcd gcdOf sideOf figure divided farRaw farEnd firstEnd lastEnd order turnPoly turn sideSign pieces withSide withPiece meeting crossingOf
+unfolding sgn steps gcd gcdOf sideOf figureOf divided farRaw farEnd firstEnd lastEnd order turnPoly turn sideSign stretches withSide withStretch meeting crossingOf
 worked-answers = record {
   sides-begin = refl;
   sides-end = refl;

@@ -7,11 +7,11 @@ use Rattle.whole.specs.Sign.{sgn}
 use Rattle.whole.specs.Divisor.{steps, gcd, gcdOf}
 use Rattle.sheet.specs.declared.Object.{Object}
 use Rattle.sheet.specs.declared.Point.{Point}
-use Rattle.sheet.specs.Figure.{sideOf, figure}
+use Rattle.sheet.specs.Figure.{sideOf, figureOf}
 use Rattle.sheet.specs.Refusal.{pairRefusal, sideRefusal, objectRefusal}
 use Rattle.sheet.specs.Points.{divided, standard, narrow, frame, isPoint}
 use Rattle.sheet.specs.Ends.{farRaw, farEnd}
-use Rattle.sheet.specs.Crossing.{pieces, withSide, withPiece, meeting, crossingOf, crossingRefusal}
+use Rattle.sheet.specs.Crossing.{stretches, withSide, withStretch, meeting, crossingOf, crossingRefusal}
 use Rattle.sheet.specs.Crossing as crossing
 use Rattle.sheet.specs.Cases.{minus, line, side, point}
 
@@ -42,7 +42,7 @@ pub record WorkedReach : Type 0 where
       (point (minus 1) (pos 7998000) (pos 4000) (pos 0) (pos 4000))
 
 pub worked-reach : WorkedReach
-unfolding sgn steps gcd gcdOf sideOf figure pairRefusal sideRefusal objectRefusal divided standard narrow frame isPoint farRaw farEnd pieces withSide withPiece meeting crossingOf crossingRefusal
+unfolding sgn steps gcd gcdOf sideOf figureOf pairRefusal sideRefusal objectRefusal divided standard narrow frame isPoint farRaw farEnd stretches withSide withStretch meeting crossingOf crossingRefusal
 worked-reach = record {
   widest = record { taken = refl; shared = refl; is-point = refl };
   farthest-x = record { taken = refl; shared = refl; is-point = refl };

@@ -6,6 +6,7 @@ use mathlib.Core.List.{List, [], _∷_, _++_, map}
 use Prim.Native.Nat.{ℕ}
 use lib.IntN.{ℤ, pos}
 use lib.ListN.{replicate}
+use Rattle.whole.specs.InTurn.{inTurn}
 use Rattle.whole.specs.Sign.{sgn}
 use Rattle.whole.specs.Divisor.{steps, gcd, gcdOf}
 use Rattle.sheet.specs.declared.Object.{Object}
@@ -16,7 +17,7 @@ use Rattle.sheet.specs.Points.{standard, narrow, frame, isPoint, pointRe
 use Rattle.sheet.specs.Signs.{orderRefusal, turnRefusal, sideSignRefusal}
 use Rattle.sheet.specs.Crossing.{crossingRefusal}
 use Rattle.sheet.specs.Answers.{answer, objectNumbers}
-use Rattle.sheet.specs.Lists.{firstRefusal, listRefusal, indexRefusal}
+use Rattle.sheet.specs.Lists.{listRefusal, indexRefusal}
 use Rattle.sheet.specs.Lent.{roomRefusal, otherNumber, lengthGiven, filled}
 use Rattle.sheet.specs.Cases.{object, segment, ray, side, point, at}
 
@@ -110,7 +111,7 @@ pub record WorkedRefusals : Type 0 where
   unchanged : filled {A = ℕ} (pos 3) (1 ∷ []) (7 ∷ 8 ∷ []) ≡ 7 ∷ 8 ∷ []
 
 pub worked-refusals : WorkedRefusals
-unfolding sgn steps gcd gcdOf pairRefusal sideRefusal objectRefusal standard narrow frame isPoint pointRefusal orderRefusal turnRefusal sideSignRefusal crossingRefusal firstRefusal listRefusal
+unfolding sgn steps gcd gcdOf pairRefusal sideRefusal objectRefusal standard narrow frame isPoint pointRefusal orderRefusal turnRefusal sideSignRefusal crossingRefusal inTurn listRefusal
 worked-refusals = record {
   points-taken = refl;
   no-point-of-two = (refl, refl, refl);

@@ -1,13 +1,17 @@
 // The vocabulary of a clearance sheet: objects, points, and what a call answers. The paper's definitions are in specs/.
+pub mod lent;
 pub mod lists;
+pub mod refusal;
 
 ghost use mathlib.Core.Path.{_≡_};
 ghost use mathlib.Core.List.{[], _∷_};
-ghost use lib.IntN.{pos, negℤ};
+ghost use lib.IntN.{pos};
 ghost use Rattle.sheet.specs.Limits.{reach, most};
-ghost use Rattle.sheet.specs.Refusal.{outside, anyBeyond, equal, noSide, pairRefusal, sideRefusal, refusalOf, objectRefusal};
+ghost use Rattle.sheet.specs.Refusal.{outside, beyond, anyBeyond, equal, noSide, pairRefusal, sideRefusal, refusalOf, objectRefusal};
 ghost use Rattle.sheet.specs.Answers.{answer, madeSays};
 ghost use Rattle.sheet.specs.Lists.{width};
+ghost use Rattle.sheet.specs.Points.{given};
+ghost use Rattle.sheet.specs.Ends.{corner};
 
 // An object of a sheet. Kind 1 is a segment, 2 a ray, 3 a line, each from p toward q; kind 4 is the frame's side of number px.
 #[repr(C)]
@@ -115,6 +119,32 @@ impl Point {
     pub const FRAME_W: i64 = 4_000;
 
     pub const FRAME_N: i64 = 8_000_000;
+
+    // The point of a given place.
+    pub fn given(x: i64, y: i64) -> Point
+        ensures { λ r. ⌜ r ≡ given (record { x = x; y = y }) ⌝ }
+    {
+        Point {
+            mx: 0,
+            nx: x,
+            my: 0,
+            ny: y,
+            w: 1,
+        }
+    }
+
+    // The point of a corner of the frame, where mx and my are 1 or -1.
+    pub fn corner(mx: i64, my: i64) -> Point
+        ensures { λ r. ⌜ r ≡ corner mx my ⌝ }
+    {
+        Point {
+            mx,
+            nx: 0,
+            my,
+            ny: 0,
+            w: 1,
+        }
+    }
 }
 
 fn make(kind: i64, px: i64, py: i64, qx: i64, qy: i64) -> Made
@@ -139,9 +169,9 @@ fn is_outside(lo: i64, hi: i64, z: i64) -> bool
     (z < lo) | (hi < z)
 }
 
-// Beyond the object type's own limit. That it is the paper's is shown in any_beyond, where the paper's `beyond` is asked for.
-fn is_beyond(z: i64) -> bool
-    ensures { λ r. do ⌜ r ≡ outside (negℤ (← ⟦Object::REACH⟧ .entry)) (← ⟦Object::REACH⟧ .entry) z ⌝ }
+// Whether a coordinate is beyond the largest, either way.
+pub fn is_beyond(z: i64) -> bool
+    ensures { λ r. ⌜ r ≡ beyond z ⌝ }
 {
     is_outside(-Object::REACH, Object::REACH, z)
 }
@@ -165,24 +195,24 @@ fn is_no_side(n: i64, a: i64, b: i64, c: i64) -> bool
 }
 
 // The refusal of two given points, 2 and then 3; 0 for none.
-pub fn pair_refusal(px: i64, py: i64, qx: i64, qy: i64) -> i64
+fn pair_refusal(px: i64, py: i64, qx: i64, qy: i64) -> i64
     ensures { λ r. ⌜ r ≡ pairRefusal px py qx qy ⌝ }
 {
     if any_beyond(px, py, qx, qy) {
-        return 2;
+        return refusal::TOO_FAR;
     }
     if are_equal(px, py, qx, qy) {
-        return 3;
+        return refusal::SAME_POINTS;
     }
     0
 }
 
 // The refusal of a side number with the three numbers after it, 4; 0 for none.
-pub fn side_refusal(n: i64, a: i64, b: i64, c: i64) -> i64
+fn side_refusal(n: i64, a: i64, b: i64, c: i64) -> i64
     ensures { λ r. ⌜ r ≡ sideRefusal n a b c ⌝ }
 {
     if is_no_side(n, a, b, c) {
-        return 4;
+        return refusal::NO_SIDE;
     }
     0
 }
@@ -191,7 +221,7 @@ fn refusal_of(kind: i64, px: i64, py: i64, qx: i64, qy: i64) -> i64
     ensures { λ r. ⌜ r ≡ refusalOf kind px py qx qy ⌝ }
 {
     if is_outside(Object::SEGMENT, Object::SIDE, kind) {
-        return 1;
+        return refusal::NO_KIND;
     }
     if kind == Object::SIDE {
         return side_refusal(px, py, qx, qy);

@@ -26,17 +26,17 @@ twoEndsOf l = record { refusal = number l 0; first = pointFrom l 1; last = point
 abbrev pub answerOf : List ℤ → Answer
 answerOf l = record { refusal = number l 0; number = number l 1; at = pointFrom l 2 }
 
-abbrev pub endsShown : Object → TwoEnds
-endsShown o = twoEndsOf (answer (objectRefusal o) (numbers (firstEnd o) ++ numbers (lastEnd o)))
+abbrev pub endsAnswer : Object → TwoEnds
+endsAnswer o = twoEndsOf (answer (objectRefusal o) (numbers (firstEnd o) ++ numbers (lastEnd o)))
 
-abbrev pub orderShown : Point → Point → Answer
-orderShown p q = answerOf (answer (orderRefusal p q) (order p q ∷ []))
+abbrev pub orderAnswer : Point → Point → Answer
+orderAnswer p q = answerOf (answer (orderRefusal p q) (order p q ∷ []))
 
-abbrev pub sideShown : Object → Point → Answer
-sideShown o s = answerOf (answer (sideSignRefusal o s) (sideSign o s ∷ []))
+abbrev pub sideAnswer : Object → Point → Answer
+sideAnswer o s = answerOf (answer (sideSignRefusal o s) (sideSign o s ∷ []))
 
-abbrev pub crossingShown : Object → Object → Answer
-crossingShown a b = answerOf (answer (crossingRefusal a b) (meetingNumbers (crossingOf a b)))
+abbrev pub crossingAnswer : Object → Object → Answer
+crossingAnswer a b = answerOf (answer (crossingRefusal a b) (meetingNumbers (crossingOf a b)))
 
-abbrev pub circleShown : Point → Point → Point → Point → Answer
-circleShown p q s u = answerOf (answer (circleRefusal p q s u) (sideOfCircle p q s u ∷ []))
+abbrev pub circleAnswer : Point → Point → Point → Point → Answer
+circleAnswer p q s u = answerOf (answer (circleRefusal p q s u) (sideOfCircle p q s u ∷ []))

@@ -4,17 +4,17 @@ use lib.IntN.{ℤ, pos}
 use Rattle.whole.specs.Sign.{sgn}
 use Rattle.whole.specs.Divisor.{steps, gcd, gcdOf}
 use Rattle.sheet.specs.declared.Point.{Point}
-use Rattle.sheet.specs.Figure.{sideOf, figure}
+use Rattle.sheet.specs.Figure.{sideOf, figureOf}
 use Rattle.sheet.specs.Refusal.{pairRefusal, sideRefusal, objectRefusal}
 use Rattle.sheet.specs.Points.{divided, standard, narrow, frame, isPoint, pointRefusal}
 use Rattle.sheet.specs.Ends.{farRaw, farEnd, firstEnd, lastEnd}
 use Rattle.sheet.specs.Signs.{order, turnPoly, turn, sideSign, orderRefusal, sideSignRefusal}
 use Rattle.sheet.specs.Circle.{circlePoly, sideOfCircle, isGiven, givenRefusal, circleRefusal}
-use Rattle.sheet.specs.Crossing.{pieces, withSide, withPiece, meeting, crossingOf, crossingRefusal}
+use Rattle.sheet.specs.Crossing.{stretches, withSide, withStretch, meeting, crossingOf, crossingRefusal}
 use Rattle.sheet.specs.Cases.{minus, object, segment, ray, line, side, point, at}
 use Rattle.spot.specs.declared.TwoEnds.{TwoEnds}
 use Rattle.spot.specs.declared.Answer.{Answer}
-use Rattle.spot.specs.Numbers.{endsShown, orderShown, sideShown, crossingShown, circleShown}
+use Rattle.spot.specs.Numbers.{endsAnswer, orderAnswer, sideAnswer, crossingAnswer, circleAnswer}
 
 abbrev nought : Point
 nought = point (pos 0) (pos 0) (pos 0) (pos 0) (pos 0)
@@ -35,28 +35,28 @@ refused n = record { refusal = n; number = pos 0; at = nought }
 pub record Worked : Type 0 where
   -- rows 1 and 2 of the worked rows, "in its direction"
   ends :
-      endsShown (line (pos 0) (pos 3) (pos 1) (pos 4))
+      endsAnswer (line (pos 0) (pos 3) (pos 1) (pos 4))
       ≡ both (point (minus 1) (pos 0) (minus 1) (pos 3) (pos 1)) (point (pos 1) (minus 3) (pos 1) (pos 0) (pos 1))
-  no-ends : endsShown (segment (pos 2001) (pos 0) (pos 0) (pos 0)) ≡ record { refusal = pos 2; first = nought; last = nought }
+  no-ends : endsAnswer (segment (pos 2001) (pos 0) (pos 0) (pos 0)) ≡ record { refusal = pos 2; first = nought; last = nought }
   -- row 7: "Order of (-1,-R) against (0,0): -1"
-  before : orderShown (point (pos 0) (minus 1) (minus 1) (pos 0) (pos 1)) (at (pos 0) (pos 0)) ≡ plain (minus 1)
-  no-order : orderShown (at (pos 0) (pos 0)) nought ≡ refused (pos 5)
+  before : orderAnswer (point (pos 0) (minus 1) (minus 1) (pos 0) (pos 1)) (at (pos 0) (pos 0)) ≡ plain (minus 1)
+  no-order : orderAnswer (at (pos 0) (pos 0)) nought ≡ refused (pos 5)
   -- "1 meaning left", and -1 right
-  left : sideShown (ray (pos 0) (pos 0) (pos 1) (pos 0)) (at (pos 0) (pos 1)) ≡ plain (pos 1)
-  right : sideShown (ray (pos 0) (pos 0) (pos 1) (pos 0)) (at (pos 0) (minus 1)) ≡ plain (minus 1)
-  no-side : sideShown (side (pos 5)) nought ≡ refused (pos 4)
+  left : sideAnswer (ray (pos 0) (pos 0) (pos 1) (pos 0)) (at (pos 0) (pos 1)) ≡ plain (pos 1)
+  right : sideAnswer (ray (pos 0) (pos 0) (pos 1) (pos 0)) (at (pos 0) (minus 1)) ≡ plain (minus 1)
+  no-side : sideAnswer (side (pos 5)) nought ≡ refused (pos 4)
   -- "none, point or many": two opposite sides, row 8, a side with itself
-  none : crossingShown (side (pos 1)) (side (pos 3)) ≡ plain (pos 0)
-  point-of-two : crossingShown (ray (pos 0) (pos 0) (pos 1) (pos 0)) (ray (pos 0) (pos 0) (minus 1) (pos 0)) ≡ once (at (pos 0) (pos 0))
-  many : crossingShown (side (pos 1)) (side (pos 1)) ≡ plain (pos 2)
-  no-crossing : crossingShown (side (pos 1)) (object (pos 5) (pos 0) (pos 0) (pos 0) (pos 0)) ≡ refused (pos 1)
+  none : crossingAnswer (side (pos 1)) (side (pos 3)) ≡ plain (pos 0)
+  point-of-two : crossingAnswer (ray (pos 0) (pos 0) (pos 1) (pos 0)) (ray (pos 0) (pos 0) (minus 1) (pos 0)) ≡ once (at (pos 0) (pos 0))
+  many : crossingAnswer (side (pos 1)) (side (pos 1)) ≡ plain (pos 2)
+  no-crossing : crossingAnswer (side (pos 1)) (object (pos 5) (pos 0) (pos 0) (pos 0) (pos 0)) ≡ refused (pos 1)
   -- where the first three turn left, 1 outside and -1 inside; 21 where one of them is no given point
-  outside : circleShown (at (pos 0) (pos 0)) (at (pos 2) (pos 0)) (at (pos 0) (pos 2)) (at (pos 3) (pos 3)) ≡ plain (pos 1)
-  inside : circleShown (at (pos 0) (pos 0)) (at (pos 2) (pos 0)) (at (pos 0) (pos 2)) (at (pos 1) (pos 1)) ≡ plain (minus 1)
-  no-circle : circleShown (at (pos 2001) (pos 0)) (at (pos 2) (pos 0)) (at (pos 0) (pos 2)) (at (pos 1) (pos 1)) ≡ refused (pos 21)
+  outside : circleAnswer (at (pos 0) (pos 0)) (at (pos 2) (pos 0)) (at (pos 0) (pos 2)) (at (pos 3) (pos 3)) ≡ plain (pos 1)
+  inside : circleAnswer (at (pos 0) (pos 0)) (at (pos 2) (pos 0)) (at (pos 0) (pos 2)) (at (pos 1) (pos 1)) ≡ plain (minus 1)
+  no-circle : circleAnswer (at (pos 2001) (pos 0)) (at (pos 2) (pos 0)) (at (pos 0) (pos 2)) (at (pos 1) (pos 1)) ≡ refused (pos 21)
 
 pub worked : Worked
-unfolding sgn steps gcd gcdOf sideOf figure pairRefusal sideRefusal objectRefusal divided standard narrow frame isPoint pointRefusal farRaw farEnd firstEnd lastEnd order turnPoly turn sideSign orderRefusal sideSignRefusal pieces withSide withPiece meeting crossingOf crossingRefusal circlePoly sideOfCircle isGiven givenRefusal circleRefusal
+unfolding sgn steps gcd gcdOf sideOf figureOf pairRefusal sideRefusal objectRefusal divided standard narrow frame isPoint pointRefusal farRaw farEnd firstEnd lastEnd order turnPoly turn sideSign orderRefusal sideSignRefusal stretches withSide withStretch meeting crossingOf crossingRefusal circlePoly sideOfCircle isGiven givenRefusal circleRefusal
 worked = record {
   ends = refl;
   no-ends = refl;

@@ -5,7 +5,7 @@ mod numbers;
 use sheet::Object;
 use sheet::Point;
 ghost use mathlib.Core.Path.{_≡_};
-ghost use Rattle.spot.specs.Numbers.{endsShown, orderShown, sideShown, crossingShown, circleShown};
+ghost use Rattle.spot.specs.Numbers.{endsAnswer, orderAnswer, sideAnswer, crossingAnswer, circleAnswer};
 
 // The two ends of an object: the refusal or 0, and the ends in its direction.
 #[repr(C)]
@@ -25,35 +25,35 @@ pub struct Answer {
 
 #[no_mangle]
 pub extern "C" fn silvanelga_spot_ends(o: Object) -> TwoEnds
-    ensures { λ r. ⌜ r ≡ endsShown o ⌝ }
+    ensures { λ r. ⌜ r ≡ endsAnswer o ⌝ }
 {
     numbers::of_ends(kernel::ends::ends_of(o))
 }
 
 #[no_mangle]
 pub extern "C" fn silvanelga_spot_order(p: Point, q: Point) -> Answer
-    ensures { λ r. ⌜ r ≡ orderShown p q ⌝ }
+    ensures { λ r. ⌜ r ≡ orderAnswer p q ⌝ }
 {
     numbers::of_sign(kernel::signs::order_points(p, q))
 }
 
 #[no_mangle]
 pub extern "C" fn silvanelga_spot_side(o: Object, s: Point) -> Answer
-    ensures { λ r. ⌜ r ≡ sideShown o s ⌝ }
+    ensures { λ r. ⌜ r ≡ sideAnswer o s ⌝ }
 {
     numbers::of_sign(kernel::signs::side_of(o, s))
 }
 
 #[no_mangle]
 pub extern "C" fn silvanelga_spot_cross(a: Object, b: Object) -> Answer
-    ensures { λ r. ⌜ r ≡ crossingShown a b ⌝ }
+    ensures { λ r. ⌜ r ≡ crossingAnswer a b ⌝ }
 {
     numbers::of_crossing(kernel::crossing::cross(a, b))
 }
 
 #[no_mangle]
 pub extern "C" fn silvanelga_spot_circle(p: Point, q: Point, s: Point, u: Point) -> Answer
-    ensures { λ r. ⌜ r ≡ circleShown p q s u ⌝ }
+    ensures { λ r. ⌜ r ≡ circleAnswer p q s u ⌝ }
 {
     numbers::of_sign(kernel::circle::side_of_circle(p, q, s, u))
 }

@@ -9,8 +9,7 @@ use denote.Ref.{RefT}
 use denote.Triple.Clauses.{AtExit}
 use Rattle.store.specs.declared.Read.{Read}
 use Rattle.store.specs.declared.Written.{Written}
-use Rattle.store.specs.declared.Place.{Place}
-use Rattle.store.specs.declared.Item.{Item}
+use Rattle.store.specs.declared.Bookmark.{Bookmark}
 use Rattle.store.specs.declared.Stepped.{Stepped}
 use Rattle.store.specs.declared.Reader.{Reader}
 use Rattle.store.specs.declared.Taken.{Taken}
@@ -19,7 +18,6 @@ use Rattle.store.proofs.read_drawing.Reads as read-drawing
 use Rattle.store.proofs.write_drawing.Reads as write-drawing
 use Rattle.store.proofs.start.Reads as start
 use Rattle.store.proofs.step.Reads as step
-use Rattle.store.proofs.first.Reads as first
 use Rattle.store.proofs.open_reader as open-reader
 use Rattle.store.proofs.next as next
 use Rattle.store.proofs.ReaderPosts.{OpenReaderPost, NextPost}
@@ -41,18 +39,13 @@ pub write-drawing-answer :
     → (r ≡ s) × (l .now ≡ m .now)
 write-drawing-answer κs list out r s l m p q = (p .0 ∙ sym (q .0), p .1 ∙ sym (q .1))
 
-pub start-answer : (κs : Lfts 0) (r s : Place) → start.Post κs tt r tt → start.Post κs tt s tt → r ≡ s
+pub start-answer : (κs : Lfts 0) (r s : Bookmark) → start.Post κs tt r tt → start.Post κs tt s tt → r ≡ s
 start-answer κs r s p q = p ∙ sym q
 
 pub step-answer :
-    (κs : Lfts 1) (bytes : RefT (List ℕ)) (place : Place) (r s : Stepped)
+    (κs : Lfts 1) (bytes : RefT (List ℕ)) (place : Bookmark) (r s : Stepped)
     → step.Post κs (bytes, (place, tt)) r (bytes, (place, tt)) → step.Post κs (bytes, (place, tt)) s (bytes, (place, tt)) → r ≡ s
 step-answer κs bytes place r s p q = p ∙ sym q
-
-pub first-answer :
-    (κs : Lfts 1) (bytes : RefT (List ℕ)) (r s : Item)
-    → first.Post κs (bytes, tt) r (bytes, tt) → first.Post κs (bytes, tt) s (bytes, tt) → r ≡ s
-first-answer κs bytes r s p q = p ∙ sym q
 
 -- ---- the reader's own calls
 

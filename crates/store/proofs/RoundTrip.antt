@@ -18,7 +18,7 @@ use Rattle.store.specs.declared.Read.{Read}
 use Rattle.store.specs.declared.Written.{Written}
 use Rattle.store.specs.Stored.{Drawing, readDrawing, writeDrawing}
 use Rattle.store.specs.Answers.{readAnswer, readInto, writeAnswer, writeInto}
-use Rattle.store.specs.Trip.{Bytes}
+use Rattle.number.specs.Number.{Bytes}
 use Rattle.store.specs.StoredLaws.{written-read, read-written}
 use Rattle.store.proofs.read_drawing.Reads as read-drawing
 use Rattle.store.proofs.write_drawing.Reads as write-drawing

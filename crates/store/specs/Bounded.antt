@@ -4,8 +4,8 @@ use lib.IntN.{ℤ, natAbs}
 use Rattle.sheet.specs.declared.Object.{Object}
 use Rattle.sheet.specs.Limits.{reachSize}
 
--- numbers small enough for two groups of seven bits
-pub record Small (x y u v : ℤ) : Type 0 where
+-- coordinates within the limits
+pub record Reachable (x y u v : ℤ) : Type 0 where
   pub px : natAbs x ≤ reachSize
   pub py : natAbs y ≤ reachSize
   pub qx : natAbs u ≤ reachSize
@@ -13,4 +13,4 @@ pub record Small (x y u v : ℤ) : Type 0 where
 
 pub record Bounded (o : Object) : Type 0 where
   pub kind : natAbs (o .kind) ≤ reachSize
-  pub rest : Small (o .px) (o .py) (o .qx) (o .qy)
+  pub rest : Reachable (o .px) (o .py) (o .qx) (o .qy)

@@ -1,22 +1,27 @@
+-- what is to be believed
 pub mod Stored
 pub mod Answers
 pub mod Reader
-pub mod Tells
-pub mod Bounded
-pub mod TellsLaws
-pub mod NumberLaws
 pub mod Refusals
-pub mod SureLaws
-pub mod ObjectsLaws
-pub mod AnswersLaws
-pub mod WriteLaws
-pub mod ListLaws
-pub mod Trip
-pub mod ObjectTrip
-pub mod StoredLaws
-pub mod LongestLaws
-pub mod StepLaws
-pub mod ReaderLaws
+-- worked on them
 pub mod Rows
 pub mod WorkedStored
 pub mod WorkedReader
+-- what the code's inner functions say
+pub mod Bounded
+-- laws: what is read, and what is written
+pub mod SureLaws
+pub mod ObjectsLaws
+pub mod ListLaws
+pub mod BoundedLaws
+pub mod AnswersLaws
+-- laws: there and back
+pub mod PlainLaws
+pub mod Trip
+pub mod ObjectTrip
+pub mod StoredLaws
+-- laws: how long a drawing is
+pub mod LongestLaws
+-- laws: the reader
+pub mod StepLaws
+pub mod ReaderLaws

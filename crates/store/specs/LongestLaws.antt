@@ -6,187 +6,152 @@
 --   longest-reached     and a drawing is as long as that
 -- Assumes nothing.
 use mathlib.Core.Path.{_≡_, refl, sym, ap, subst, _∙_}
-use mathlib.Core.Bool.{Bool, true, false, cond}
+use mathlib.Core.Bool.{Bool, true, false, cond, _||_}
 use mathlib.Core.List.{List, [], _∷_, _++_}
 use Prim.Native.Nat.{ℕ, zero, suc, _+_, _*_, _-_, _<_, _≤_}
 use native.Mathlib.Omega.{arith}
-use borrow.Author.Tests.{ltb-true, ltb-false, lt-ltb, le-ltb, eqb-false}
+use borrow.Author.Tests.{ltb-true, ltb-false, lt-ltb}
 use lib.Dec.{ltb, eqb}
-use lib.IntN.{ℤ, pos}
+use lib.IntN.{ℤ, pos, _+ℤ_, _-ℤ_}
 use lib.ListN.{length, take, drop, take-append-drop}
 use lib.Seq.{take-all, length-take-le}
+use Rattle.whole.specs.InTurn.{inTurn}
 use Rattle.whole.specs.Tests.{eqZ-false}
 use Rattle.sheet.specs.declared.Object.{Object}
-use Rattle.sheet.specs.Figure.{Vec}
+use Rattle.sheet.specs.Figure.{vec, Vec}
 use Rattle.sheet.specs.Limits.{most}
 use Rattle.sheet.specs.Refusal.{outside, beyond, equal, pairRefusal, objectRefusal, Accepted}
 use Rattle.sheet.specs.Lists.{width, countOf, objectAt, listRefusal}
 use Rattle.sheet.specs.ListsLaws.{is-listable, object-next}
-use Rattle.store.specs.Stored.{Drawing, Reading, got, no, next, checked, pairOf, longest, andThen, counted, refused, before, writeDrawing, readGroups, readNumber, unzigzag, readCoordinate, sideObject, readSide, readPoint, readTo, readPair, readShape, readObject, readObjects, readCount, readDrawing, writeGroups, writeShape, writeObject, writeObjects}
-use Rattle.store.specs.SureLaws.{Sure, Any, not-nought, sure-number, sure-object}
+use Rattle.number.specs.Number.{limit, writeGroups, zigzag, Reading, got, no, next, checked, unzigzag}
+use Rattle.number.specs.ZigzagLaws.{zigzag-unzigzag}
+use Rattle.number.specs.SameLaws.{Same, on, off, same-next, same-checked, same-cond, same-weak, same-take}
+use Rattle.store.specs.Stored.{Form, plain, Drawing, nought, originOf, longest, andThen, counted, before, writeDrawing, readCoordinate, sideObject, readSide, readPoint, readTo, readPair, readShape, readObject, readObjects, readCount, readDrawing, writeShape, writeObject, writeObjects}
+use Rattle.store.specs.SureLaws.{Sure, not-nought, sure-point, sure-object, sure-count}
 use Rattle.store.specs.SureLaws as sure
+use Rattle.store.specs.ListLaws.{objects-first}
+use Rattle.store.specs.Trip.{back, stored-small, InReach, Sound, plain-sound, near-nought, near-origin}
 use Rattle.store.specs.StoredLaws.{read-written}
 
--- of bs and of bs with t behind it the same is read, by at most k bytes
-data Same {A : Type 0} (k : ℕ) (bs t : List ℕ) : Reading A → Reading A → Type 0 where
-  on : (a : A) (rest : List ℕ) → length bs ≤ length rest + k → Same k bs t (got a rest) (got a (rest ++ t))
-  off : (n : ℤ) → Same k bs t (no n) (no n)
+-- ---- numbers that are refused where they take more bytes
 
-same-next :
-    {A B : Type 0} (j k : ℕ) {bs t : List ℕ} {r r′ : Reading A} (f : A → List ℕ → Reading B) → j + k ≤ length bs → Same j bs t r r′
-    → ((a : A) (rest : List ℕ) → k ≤ length rest → Same k rest t (f a rest) (f a (rest ++ t)))
+-- what more than two groups hold is no coordinate
+large-beyond : (start : ℤ) → beyond start ≡ false → (n : ℕ) → limit 1 ≤ n → beyond (start +ℤ unzigzag n) ≡ true
+large-beyond start h n l = go (beyond (start +ℤ unzigzag n)) refl
+  where
+    go : (b : Bool) → beyond (start +ℤ unzigzag n) ≡ b → b ≡ true
+    go true e = refl
+    go false e =
+        let small = stored-small start (start +ℤ unzigzag n) h e in
+        let is : zigzag (start +ℤ unzigzag n -ℤ start) ≡ n = ap zigzag (back start (unzigzag n)) ∙ zigzag-unzigzag n in
+        absurd (omega arith)
+
+large-outside : (lo hi n : ℕ) → hi < n → outside (pos lo) (pos hi) (pos n) ≡ true
+large-outside lo hi n h = go (ltb n lo)
+  where
+    go : (b : Bool) → (b || ltb hi n) ≡ true
+    go true = refl
+    go false = lt-ltb hi n h
+
+-- ---- objects
+
+-- what was read has P
+same-sure :
+    {A B : Type 0} {P : A → Type 0} (j k : ℕ) {bs t : List ℕ} {r r′ : Reading A} (f : A → List ℕ → Reading B) → j + k < length bs
+    → Same j bs t r r′ → Sure P bs r → ((a : A) (rest : List ℕ) → P a → k < length rest → Same k rest t (f a rest) (f a (rest ++ t)))
     → Same (j + k) bs t (next r f) (next r′ f)
-same-next j k {bs} {t} f h (off n) s = off n
-same-next {A} {B} j k {bs} {t} f h (on a rest l) s = go (s a rest (omega arith))
+same-sure j k {bs} {t} f h (off n) u s = off n
+same-sure {A} {B} {P} j k {bs} {t} f h (on a rest l) (sure.read _ front _ e p) s = go (s a rest p (omega arith))
   where
     go : {r r′ : Reading B} → Same k rest t r r′ → Same (j + k) bs t r r′
     go (off n) = off n
     go (on b rest′ m) = on b rest′ (omega arith)
 
-same-checked : {A : Type 0} (t : Bool) (n : ℤ) (a : A) (rest more : List ℕ) → Same 0 rest more (checked t n a rest)
-    (checked t n a (rest ++ more))
-same-checked true n a rest more = off n
-same-checked false n a rest more = on a rest (omega arith)
-
-same-cond : {A : Type 0} {k : ℕ} {bs more : List ℕ} (t : Bool) {r r′ s s′ : Reading A}
-    → Same k bs more r r′ → Same k bs more s s′ → Same k bs more (cond t r s) (cond t r′ s′)
-same-cond true h l = h
-same-cond false h l = l
-
-same-weak : {A : Type 0} {j k : ℕ} {bs t : List ℕ} {r r′ : Reading A} → j ≤ k → Same j bs t r r′ → Same k bs t r r′
-same-weak h (off n) = off n
-same-weak h (on a rest l) = on a rest (omega arith)
-
-same-groups : (more : ℕ) (bs t : List ℕ) → suc more ≤ length bs → Same (suc more) bs t (readGroups more bs) (readGroups more (bs ++ t))
-unfolding readGroups
-same-groups more [] t h = absurd (omega arith)
-same-groups zero (b ∷ bs) t h = same-cond (ltb b 128) (on b bs (omega arith)) (off (pos 8))
-same-groups (suc more) (b ∷ bs) t h =
-    same-cond (ltb b 128) (on b bs (omega arith)) (go (same-groups more bs t (omega arith)))
-  where
-    go : {r r′ : Reading ℕ} → Same (suc more) bs t r r′
-        → Same (suc (suc more)) (b ∷ bs) t (next r (λ n rest. checked (eqb n 0) (pos 8) (b - 128 + 128 * n) rest))
-        (next r′ (λ n rest. checked (eqb n 0) (pos 8) (b - 128 + 128 * n) rest))
-    go (off n) = off n
-    go (on n rest l) = second (eqb n 0)
-      where
-        second : (s : Bool) → Same (suc (suc more)) (b ∷ bs) t (checked s (pos 8) (b - 128 + 128 * n) rest)
-            (checked s (pos 8) (b - 128 + 128 * n) (rest ++ t))
-        second true = off (pos 8)
-        second false = on (b - 128 + 128 * n) rest (omega arith)
-
-same-number : (bs t : List ℕ) → 2 ≤ length bs → Same 2 bs t (readNumber bs) (readNumber (bs ++ t))
-same-number bs t h = same-groups 1 bs t h
-
-same-coordinate : (bs t : List ℕ) → 2 ≤ length bs → Same 2 bs t (readCoordinate bs) (readCoordinate (bs ++ t))
+same-coordinate :
+    (start : ℤ) (bs t : List ℕ) → beyond start ≡ false → 2 < length bs → Same 2 bs t (readCoordinate start bs) (readCoordinate start (bs ++ t))
 unfolding readCoordinate
-same-coordinate bs t h =
-    same-next 2 0 (λ n rest. checked (beyond (unzigzag n)) (pos 2) (unzigzag n) rest) h (same-number bs t h)
-    (λ n rest l. same-checked (beyond (unzigzag n)) (pos 2) (unzigzag n) rest t)
+same-coordinate start bs t k h =
+    same-take 1 0 (pos 2) bs t (λ n rest. checked (beyond (start +ℤ unzigzag n)) (pos 2) (start +ℤ unzigzag n) rest) h (omega arith)
+    (λ n l rest. simp (large-beyond start k n l))
+    (λ n rest l. same-checked (beyond (start +ℤ unzigzag n)) (pos 2) (start +ℤ unzigzag n) rest t)
 
-same-point : (bs t : List ℕ) → 4 ≤ length bs → Same 4 bs t (readPoint bs) (readPoint (bs ++ t))
+same-point : (start : Vec) (bs t : List ℕ) → InReach start → 4 < length bs → Same 4 bs t (readPoint start bs) (readPoint start (bs ++ t))
 unfolding readPoint
-same-point bs t h =
-    same-next 2 2 (λ x rest. next (readCoordinate rest) (λ y rest. got (pairOf x y) rest)) h (same-coordinate bs t (omega arith))
-    (λ x rest l. same-next 2 0 (λ y rest. got (pairOf x y) rest) l (same-coordinate rest t l) (λ y rest l. on (pairOf x y) rest
-    (omega arith)))
+same-point start bs t k h =
+    same-next 2 2 (λ x rest. next (readCoordinate (start .y) rest) (λ y rest. got (vec x y) rest)) h
+    (same-coordinate (start .x) bs t (k .in-x) (omega arith))
+    (λ x rest l. same-next 2 0 (λ y rest. got (vec x y) rest) l (same-coordinate (start .y) rest t (k .in-y) l)
+    (λ y rest l. on (vec x y) rest (omega arith)))
 
-same-side : (bs t : List ℕ) → 8 ≤ length bs → Same 8 bs t (readSide bs) (readSide (bs ++ t))
+same-side : (bs t : List ℕ) → 8 < length bs → Same 8 bs t (readSide bs) (readSide (bs ++ t))
 unfolding readSide
 same-side bs t h =
-    same-weak (omega arith)
-    (same-next 2 0 (λ n rest. checked (outside (pos 1) (pos 4) (pos n)) (pos 4) (sideObject (pos n)) rest) (omega arith)
-    (same-number bs t (omega arith))
+    same-weak {j = 1} (omega arith)
+    (same-take 0 0 (pos 4) bs t (λ n rest. checked (outside (pos 1) (pos 4) (pos n)) (pos 4) (sideObject (pos n)) rest)
+    (omega arith) (omega arith) (λ n l rest. simp (large-outside 1 4 n (omega arith)))
     (λ n rest l. same-checked (outside (pos 1) (pos 4) (pos n)) (pos 4) (sideObject (pos n)) rest t))
 
-same-to : (kind : ℕ) (p : Vec) (bs t : List ℕ) → 4 ≤ length bs → Same 4 bs t (readTo kind p bs) (readTo kind p (bs ++ t))
-unfolding readTo
-same-to kind p bs t h = same-next 4 0 _ h (same-point bs t h) (λ q rest l. same-checked (equal (p .x) (p .y) (q .x) (q .y))
-    (pos 3) _ rest t)
+module _ {f : Form} (sound : Sound f) where
+  same-to : (kind : ℕ) (p : Vec) (bs t : List ℕ) → InReach p → 4 < length bs → Same 4 bs t (readTo f kind p bs) (readTo f kind p (bs ++ t))
+  unfolding readTo
+  same-to kind p bs t k h =
+      same-next 4 0 _ h (same-point (originOf f p) bs t (near-origin sound k) h)
+      (λ q rest l. same-checked (equal (p .x) (p .y) (q .x) (q .y)) (pos 3) _ rest t)
 
-same-pair : (kind : ℕ) (bs t : List ℕ) → 8 ≤ length bs → Same 8 bs t (readPair kind bs) (readPair kind (bs ++ t))
-unfolding readPair
-same-pair kind bs t h = same-next 4 4 (λ p rest. readTo kind p rest) h (same-point bs t (omega arith)) (λ p rest l. same-to kind p rest t l)
+  same-pair : (kind : ℕ) (bs t : List ℕ) → 8 < length bs → Same 8 bs t (readPair f kind bs) (readPair f kind (bs ++ t))
+  unfolding readPair
+  same-pair kind bs t h =
+      same-sure 4 4 (λ p rest. readTo f kind p rest) h (same-point nought bs t near-nought (omega arith)) (sure-point nought bs)
+      (λ p rest k l. same-to kind p rest t (record { in-x = k .0; in-y = k .1 }) l)
 
-same-shape : (kind : ℕ) (bs t : List ℕ) → 8 ≤ length bs → Same 8 bs t (readShape kind bs) (readShape kind (bs ++ t))
-unfolding readShape
-same-shape kind bs t h = same-cond (eqb kind 4) (same-side bs t h) (same-pair kind bs t h)
+  same-shape : (kind : ℕ) (bs t : List ℕ) → 8 < length bs → Same 8 bs t (readShape f kind bs) (readShape f kind (bs ++ t))
+  unfolding readShape
+  same-shape kind bs t h = same-cond (eqb kind 4) (same-side bs t h) (same-pair kind bs t h)
 
--- the shape behind a kind that was read
-abbrev shapeBehind : ℕ → List ℕ → Reading Object
-shapeBehind kind rest = cond (outside (pos 1) (pos 4) (pos kind)) (no (pos 1)) (readShape kind rest)
-
--- a kind that is taken stands in one byte
-same-object : (bs t : List ℕ) → 9 ≤ length bs → Same 9 bs t (readObject bs) (readObject (bs ++ t))
-unfolding readObject readGroups
-same-object [] t h = absurd (omega arith)
-same-object (b ∷ bs) t h = go (ltb b 128) (ltb-false b 128)
-  where
-    lift : {r r′ : Reading Object} → Same 8 bs t r r′ → Same 9 (b ∷ bs) t r r′
-    lift (off n) = off n
-    lift (on o rest l) = on o rest (omega arith)
-
-    large : 128 ≤ b → (n : ℕ) → (n ≡ 0 → ⊥) → outside (pos 1) (pos 4) (pos (b - 128 + 128 * n)) ≡ true
-    large l n z = simp (le-ltb (b - 128 + 128 * n) 1 (omega arith), lt-ltb 4 (b - 128 + 128 * n) (omega arith))
-
-    second : 128 ≤ b → {r r′ : Reading ℕ} → Same 1 bs t r r′
-        → Same 9 (b ∷ bs) t (next (next r (λ n rest. checked (eqb n 0) (pos 8) (b - 128 + 128 * n) rest)) shapeBehind)
-        (next (next r′ (λ n rest. checked (eqb n 0) (pos 8) (b - 128 + 128 * n) rest)) shapeBehind)
-    second l (off n) = off n
-    second l (on n rest m) = third (eqb n 0) (eqb-false n 0)
-      where
-        third : (s : Bool) → (s ≡ false → n ≡ 0 → ⊥)
-            → Same 9 (b ∷ bs) t (next (checked s (pos 8) (b - 128 + 128 * n) rest) shapeBehind)
-            (next (checked s (pos 8) (b - 128 + 128 * n) (rest ++ t)) shapeBehind)
-        third true z = off (pos 8)
-        third false z = simp (large l n (z refl)) (off (pos 1))
-
-    go : (s : Bool) → (s ≡ false → 128 ≤ b)
-        → Same 9 (b ∷ bs) t
-        (next (cond s (got b bs) (next (readGroups 0 bs) (λ n rest. checked (eqb n 0) (pos 8) (b - 128 + 128 * n) rest))) shapeBehind)
-        (next (cond s (got b (bs ++ t)) (next (readGroups 0 (bs ++ t)) (λ n rest. checked (eqb n 0) (pos 8)
-        (b - 128 + 128 * n) rest))) shapeBehind)
-    go true z = lift (same-cond (outside (pos 1) (pos 4) (pos b)) (off (pos 1)) (same-shape b bs t (omega arith)))
-    go false z = second (z refl) (same-groups 0 bs t (omega arith))
+  -- a kind that is taken stands in one byte
+  same-object : (bs t : List ℕ) → 9 < length bs → Same 9 bs t (readObject f bs) (readObject f (bs ++ t))
+  unfolding readObject
+  same-object bs t h =
+      same-take 0 8 (pos 1) bs t (λ kind rest. cond (outside (pos 1) (pos 4) (pos kind)) (no (pos 1)) (readShape f kind rest)) h (omega arith)
+      (λ n l rest. simp (large-outside 1 4 n (omega arith)))
+      (λ kind rest l. same-cond (outside (pos 1) (pos 4) (pos kind)) (off (pos 1)) (same-shape kind rest t l))
 
 -- ---- drawings
 
 -- reading more bytes than n objects can take: a refusal, and the same with more bytes behind
-record Over (n : ℕ) (bs t : List ℕ) : Type 0 where
-  over : readObjects n bs .refusal ≡ pos 0 → ⊥
-  same : readObjects n (bs ++ t) ≡ readObjects n bs
+record Over (f : Form) (n : ℕ) (bs t : List ℕ) : Type 0 where
+  over : readObjects f n bs .refusal ≡ pos 0 → ⊥
+  same : readObjects f n (bs ++ t) ≡ readObjects f n bs
 
-objects-longer : (n : ℕ) (bs t : List ℕ) → n * 9 < length bs → Over n bs t
+objects-longer : {f : Form} → Sound f → (n : ℕ) (bs t : List ℕ) → n * 9 < length bs → Over f n bs t
 unfolding readObjects
-objects-longer zero [] t h = absurd (omega arith)
-objects-longer zero (b ∷ bs) t h = record { over = eqZ-false {a = pos 9} {b = pos 0} refl; same = refl }
-objects-longer (suc n) bs t h =
-    let k = go (same-object bs t (omega arith)) (sure-object bs) (objects-longer n) in record { over = k .0; same = k .1 }
+objects-longer sound zero [] t h = absurd (omega arith)
+objects-longer sound zero (b ∷ bs) t h = record { over = eqZ-false {a = pos 9} {b = pos 0} refl; same = refl }
+objects-longer {f} sound (suc n) bs t h =
+    let k = go (same-object sound bs t (omega arith)) (sure-object f bs) (objects-longer sound n) in record { over = k .0; same = k .1 }
   where
-    go : {r r′ : Reading Object} → Same 9 bs t r r′ → Sure Accepted bs r → ((rest t : List ℕ) → n * 9 < length rest → Over n rest t)
-        → (andThen r (λ rest. readObjects n rest) .refusal ≡ pos 0 → ⊥)
-        × (andThen r′ (λ rest. readObjects n rest) ≡ andThen r (λ rest. readObjects n rest))
+    go : {r r′ : Reading Object} → Same 9 bs t r r′ → Sure Accepted bs r → ((rest t : List ℕ) → n * 9 < length rest → Over f n rest t)
+        → (andThen r (λ rest. readObjects f n rest) .refusal ≡ pos 0 → ⊥)
+        × (andThen r′ (λ rest. readObjects f n rest) ≡ andThen r (λ rest. readObjects f n rest))
     go (off n) (sure.refused m z) more = (eqZ-false (not-nought m z), refl)
     go (on o rest l) s more = let k = more rest t (omega arith) in (k .over, ap (before o) (k .same))
 
-abbrev few : ℕ → List ℕ → Reading ℕ
-few n rest = checked (ltb most n) (pos 11) n rest
+same-count : (bs t : List ℕ) → 2 < length bs → Same 2 bs t (readCount bs) (readCount (bs ++ t))
+unfolding readCount
+same-count bs t h =
+    same-take 1 0 (pos 11) bs t (λ n rest. checked (ltb most n) (pos 11) n rest) h (omega arith)
+    (λ n l rest. simp (lt-ltb most n (omega arith)))
+    (λ n rest l. same-checked (ltb most n) (pos 11) n rest t)
 
 drawing-longer :
     (bs t : List ℕ) → longest < length bs → (readDrawing bs .refusal ≡ pos 0 → ⊥) × (readDrawing (bs ++ t) ≡ readDrawing bs)
-unfolding readDrawing readCount
-drawing-longer bs t h = go (same-number bs t (omega arith)) (sure-number bs)
+unfolding readDrawing
+drawing-longer bs t h = go (same-count bs t (omega arith)) (sure-count bs)
   where
-    go : {r r′ : Reading ℕ} → Same 2 bs t r r′ → Sure Any bs r
-        → (counted (next r few) .refusal ≡ pos 0 → ⊥) × (counted (next r′ few) ≡ counted (next r few))
+    go : {r r′ : Reading ℕ} → Same 2 bs t r r′ → Sure (λ n. n ≤ most) bs r
+        → (counted plain r .refusal ≡ pos 0 → ⊥) × (counted plain r′ ≡ counted plain r)
     go (off n) (sure.refused m z) = (eqZ-false (not-nought m z), refl)
-    go (on n rest l) s = second (ltb most n) (ltb-false most n)
-      where
-        second : (u : Bool) → (u ≡ false → n ≤ most)
-            → (counted (checked u (pos 11) n rest) .refusal ≡ pos 0 → ⊥)
-            × (counted (checked u (pos 11) n (rest ++ t)) ≡ counted (checked u (pos 11) n rest))
-        second true y = (eqZ-false {a = pos 11} {b = pos 0} refl, refl)
-        second false y = let m = y refl in let k = objects-longer n rest t (omega arith) in (k .over, k .same)
+    go (on n rest l) (sure.read _ front _ e few) = let k = objects-longer plain-sound n rest t (omega arith) in (k .over, k .same)
 
 pub long-refused : (bs : List ℕ) → longest < length bs → readDrawing bs .refusal ≡ pos 0 → ⊥
 long-refused bs h = drawing-longer bs [] h .0
@@ -233,10 +198,10 @@ segments-taken zero i h = absurd (omega arith)
 segments-taken (suc n) zero h = record { accepted = refl }
 segments-taken (suc n) (suc i) h = subst Accepted (object-next (longSegments (suc n)) i) (segments-taken n i (omega arith))
 
-segments-long : (n : ℕ) → length (writeObjects n (longSegments n)) ≡ n * 9
-unfolding longSegments writeObjects writeObject writeShape writeGroups
+segments-long : (n : ℕ) → length (writeObjects plain n (longSegments n)) ≡ n * 9
+unfolding longSegments inTurn writeObject writeShape writeGroups
 segments-long zero = refl
-segments-long (suc n) = omega (arith, segments-long n)
+segments-long (suc n) = omega (arith, segments-long n, ap length (objects-first plain n (longSegments (suc n))))
 
 pub longest-reached : (listRefusal (longSegments most) ≡ pos 0) × (length (writeDrawing (longSegments most)) ≡ longest)
 unfolding writeDrawing writeGroups

@@ -1,5 +1,5 @@
--- Objects, written and read again, and back. To cite:
---   object-back   an accepted object, written, is read as it was, its first point first
+-- Objects in a form, written and read again, and back. To cite:
+--   object-back   an accepted object, written in a sound form, is read as it was, its first point first
 --   object-from   what is written for what is read is what was read
 -- Assumes nothing.
 use mathlib.Core.Path.{_≡_, refl, sym, ap, subst, _∙_}
@@ -12,17 +12,19 @@ use lib.Dec.{ltb, eqb}
 use lib.IntN.{ℤ, pos, negsuc, natAbs}
 use Rattle.whole.specs.Tests.{eqZ-true}
 use Rattle.sheet.specs.declared.Object.{Object}
-use Rattle.sheet.specs.Figure.{Vec}
+use Rattle.sheet.specs.Figure.{vec, Vec}
 use Rattle.sheet.specs.Refusal.{outside, beyond, anyBeyond, equal, pairRefusal, sideRefusal, objectRefusal}
 use Rattle.sheet.specs.Flags.{neither, isnt-not, cond-zero}
-use Rattle.store.specs.Stored.{Reading, got, no, next, checked, pairOf, writeNumber, writePoint, writeShape, writeObject, sideObject, readSide, readTo, readPair, readShape, readObject}
-use Rattle.store.specs.Trip.{Bytes, behind-bytes, From, from, not, from-checked, number-back, number-from, Near, writeSpot, point-back, point-from}
+use Rattle.number.specs.Number.{Reading, got, no, next, checked, writeNumber, Bytes}
+use Rattle.store.specs.Stored.{Form, nought, originOf, writePoint, writePair, writeShape, writeObject, sideObject, readSide, readTo, readPair, readShape, readObject}
+use Rattle.number.specs.TripLaws.{behind-bytes, From, from, not, from-checked, number-back, number-from}
+use Rattle.store.specs.Trip.{InReach, point-back, point-from, Sound, near-nought, near-origin}
 
 -- ---- what refusal 0 says, as flags
 
 pub record PairFlags (px py qx qy : ℤ) : Type 0 where
-  pub near-p : Near (pairOf px py)
-  pub near-q : Near (pairOf qx qy)
+  pub near-p : InReach (vec px py)
+  pub near-q : InReach (vec qx qy)
   pub differ : equal px py qx qy ≡ false
 
 pair-flags : (px py qx qy : ℤ) → pairRefusal px py qx qy ≡ pos 0 → PairFlags px py qx qy
@@ -66,109 +68,117 @@ side-back px py qx qy rest h =
     (sym (eqZ-true {a = qy} (isnt-not _ .0 (c .1))) i))
     rest)
 
-pair-back :
-    (kind : ℕ) (px py qx qy : ℤ) (rest : List ℕ) → pairRefusal px py qx qy ≡ pos 0
-    → readPair kind ((writePoint px py ++ writePoint qx qy) ++ rest) ≡ got (object (pos kind) px py qx qy) rest
-unfolding readPair readTo
-pair-back kind px py qx qy rest h =
-    let f = pair-flags px py qx qy h in
-    simp (
-      append-assoc (writePoint px py) (writePoint qx qy) rest,
-      point-back (pairOf px py) (writePoint qx qy ++ rest) (f .near-p),
-      point-back (pairOf qx qy) rest (f .near-q),
-      f .differ,
-    )
+module _ {f : Form} (sound : Sound f) where
+  pair-back :
+      (kind : ℕ) (px py qx qy : ℤ) (rest : List ℕ) → pairRefusal px py qx qy ≡ pos 0
+      → readPair f kind (writePair f (vec px py) (vec qx qy) ++ rest) ≡ got (object (pos kind) px py qx qy) rest
+  unfolding readPair readTo
+  pair-back kind px py qx qy rest h =
+      let p = vec px py in
+      let q = vec qx qy in
+      let l = pair-flags px py qx qy h in
+      simp (
+        append-assoc (writePoint nought p) (writePoint (originOf f p) q) rest,
+        point-back nought p (writePoint (originOf f p) q ++ rest) near-nought (l .near-p),
+        point-back (originOf f p) q rest (near-origin sound (l .near-p)) (l .near-q),
+        l .differ,
+      )
 
-shape-back :
-    (kind : ℕ) (px py qx qy : ℤ) (rest : List ℕ)
-    → cond (eqb kind 4) (sideRefusal px py qx qy) (pairRefusal px py qx qy) ≡ pos 0
-    → readShape kind (writeShape (pos kind) px py qx qy ++ rest) ≡ got (object (pos kind) px py qx qy) rest
-unfolding readShape writeShape
-shape-back kind px py qx qy rest h = go (eqb kind 4) (eqb-true kind 4) h
-  where
-    go : (t : Bool) → (t ≡ true → kind ≡ 4) → cond t (sideRefusal px py qx qy) (pairRefusal px py qx qy) ≡ pos 0
-        → cond t (readSide (cond t (writeNumber (natAbs px)) (writePoint px py ++ writePoint qx qy) ++ rest))
-        (readPair kind (cond t (writeNumber (natAbs px)) (writePoint px py ++ writePoint qx qy) ++ rest))
-        ≡ got (object (pos kind) px py qx qy) rest
-    go true y h = side-back px py qx qy rest h ∙ ap (λ (k : ℕ). got (object (pos k) px py qx qy) rest) (sym (y refl))
-    go false y h = pair-back kind px py qx qy rest h
+  shape-back :
+      (kind : ℕ) (px py qx qy : ℤ) (rest : List ℕ)
+      → cond (eqb kind 4) (sideRefusal px py qx qy) (pairRefusal px py qx qy) ≡ pos 0
+      → readShape f kind (writeShape f (pos kind) px py qx qy ++ rest) ≡ got (object (pos kind) px py qx qy) rest
+  unfolding readShape writeShape
+  shape-back kind px py qx qy rest h = go (eqb kind 4) (eqb-true kind 4) h
+    where
+      go : (t : Bool) → (t ≡ true → kind ≡ 4) → cond t (sideRefusal px py qx qy) (pairRefusal px py qx qy) ≡ pos 0
+          → cond t (readSide (cond t (writeNumber (natAbs px)) (writePair f (vec px py) (vec qx qy)) ++ rest))
+          (readPair f kind (cond t (writeNumber (natAbs px)) (writePair f (vec px py) (vec qx qy)) ++ rest))
+          ≡ got (object (pos kind) px py qx qy) rest
+      go true y h = side-back px py qx qy rest h ∙ ap (λ (k : ℕ). got (object (pos k) px py qx qy) rest) (sym (y refl))
+      go false y h = pair-back kind px py qx qy rest h
 
-pub object-back : (o : Object) (rest : List ℕ) → objectRefusal o ≡ pos 0 → readObject (writeObject o ++ rest) ≡ got o rest
-unfolding readObject writeObject objectRefusal
-object-back o rest h =
-    let e = natural (o .kind) (cond-zero _ (pos 1) _ refl .0 h .0) in
-    subst
-    (λ (z : ℤ). objectRefusal (object z (o .px) (o .py) (o .qx) (o .qy)) ≡ pos 0
-    → readObject (writeObject (object z (o .px) (o .py) (o .qx) (o .qy)) ++ rest) ≡ got (object z (o .px) (o .py) (o .qx) (o .qy)) rest)
-    (sym e) (at (natAbs (o .kind))) h
-  where
-    at : (k : ℕ) → objectRefusal (object (pos k) (o .px) (o .py) (o .qx) (o .qy)) ≡ pos 0
-        → readObject (writeObject (object (pos k) (o .px) (o .py) (o .qx) (o .qy)) ++ rest) ≡ got (object (pos k) (o .px) (o .py)
-        (o .qx) (o .qy)) rest
-    at k h =
-        let f = cond-zero (outside (pos 1) (pos 4) (pos k)) (pos 1) _ refl .0 h in
-        let small = small-natural k (f .0) in
-        let shape = writeShape (pos k) (o .px) (o .py) (o .qx) (o .qy) in
-        simp (append-assoc (writeNumber k) shape rest, number-back k (shape ++ rest) (omega arith), f .0)
-        (shape-back k (o .px) (o .py) (o .qx) (o .qy) rest (f .1))
+  pub object-back : (o : Object) (rest : List ℕ) → objectRefusal o ≡ pos 0 → readObject f (writeObject f o ++ rest) ≡ got o rest
+  unfolding readObject writeObject objectRefusal
+  object-back o rest h =
+      let e = natural (o .kind) (cond-zero _ (pos 1) _ refl .0 h .0) in
+      subst
+      (λ (z : ℤ). objectRefusal (object z (o .px) (o .py) (o .qx) (o .qy)) ≡ pos 0
+      → readObject f (writeObject f (object z (o .px) (o .py) (o .qx) (o .qy)) ++ rest) ≡ got (object z (o .px) (o .py) (o .qx) (o .qy)) rest)
+      (sym e) (at (natAbs (o .kind))) h
+    where
+      at : (k : ℕ) → objectRefusal (object (pos k) (o .px) (o .py) (o .qx) (o .qy)) ≡ pos 0
+          → readObject f (writeObject f (object (pos k) (o .px) (o .py) (o .qx) (o .qy)) ++ rest) ≡ got (object (pos k) (o .px) (o .py)
+          (o .qx) (o .qy)) rest
+      at k h =
+          let l = cond-zero (outside (pos 1) (pos 4) (pos k)) (pos 1) _ refl .0 h in
+          let small = small-natural k (l .0) in
+          let shape = writeShape f (pos k) (o .px) (o .py) (o .qx) (o .qy) in
+          simp (append-assoc (writeNumber k) shape rest, number-back k (shape ++ rest) (omega arith), l .0)
+          (shape-back k (o .px) (o .py) (o .qx) (o .qy) rest (l .1))
 
 -- ---- from
 
-side-from : (bs : List ℕ) → Bytes bs → From writeObject (writeNumber 4 ++ bs) (readSide bs)
-unfolding readSide writeShape writeObject
-side-from bs h = go (number-from bs h)
-  where
-    go : {r : Reading ℕ} → From writeNumber bs r
-        → From writeObject (writeNumber 4 ++ bs)
-        (next r (λ n rest. checked (outside (pos 1) (pos 4) (pos n)) (pos 4) (sideObject (pos n)) rest))
-    go (not n) = not n
-    go (from n rest e) =
-        from-checked (outside (pos 1) (pos 4) (pos n)) (pos 4) (sideObject (pos n)) rest
-        (ap (λ (l : List ℕ). writeNumber 4 ++ l) e ∙ sym (append-assoc (writeNumber 4) (writeNumber n) rest))
-
-module _ (kind : ℕ) (other : eqb kind 4 ≡ false) where
-  to-from :
-      (bs rest : List ℕ) (p : Vec) → bs ≡ writeSpot p ++ rest → Bytes rest → From writeObject (writeNumber kind ++ bs) (readTo kind p rest)
-  unfolding readTo writeShape writeObject
-  to-from bs rest p e h = go (point-from rest h)
+module _ (f : Form) where
+  side-from : (bs : List ℕ) → Bytes bs → From (writeObject f) (writeNumber 4 ++ bs) (readSide bs)
+  unfolding readSide writeShape writeObject
+  side-from bs h = go (number-from bs h)
     where
-      go : {r : Reading Vec} → From writeSpot rest r
-          → From writeObject (writeNumber kind ++ bs)
-          (next r (λ q rest. checked (equal (p .x) (p .y) (q .x) (q .y)) (pos 3) (object (pos kind) (p .x) (p .y) (q .x) (q .y)) rest))
+      go : {r : Reading ℕ} → From writeNumber bs r
+          → From (writeObject f) (writeNumber 4 ++ bs)
+          (next r (λ n rest. checked (outside (pos 1) (pos 4) (pos n)) (pos 4) (sideObject (pos n)) rest))
       go (not n) = not n
-      go (from q rest′ f) =
-          let both = e ∙ ap (λ (l : List ℕ). writeSpot p ++ l) f ∙ sym (append-assoc (writeSpot p) (writeSpot q) rest′) in
-          from-checked (equal (p .x) (p .y) (q .x) (q .y)) (pos 3) (object (pos kind) (p .x) (p .y) (q .x) (q .y)) rest′
-          (simp other
-          (ap (λ (l : List ℕ). writeNumber kind ++ l) both ∙ sym (append-assoc (writeNumber kind) (writeSpot p ++ writeSpot q) rest′)))
+      go (from n rest e) =
+          from-checked (outside (pos 1) (pos 4) (pos n)) (pos 4) (sideObject (pos n)) rest
+          (ap (λ (l : List ℕ). writeNumber 4 ++ l) e ∙ sym (append-assoc (writeNumber 4) (writeNumber n) rest))
 
-  pair-from : (bs : List ℕ) → Bytes bs → From writeObject (writeNumber kind ++ bs) (readPair kind bs)
-  unfolding readPair
-  pair-from bs h = go (point-from bs h)
-    where
-      go : {r : Reading Vec} → From writeSpot bs r → From writeObject (writeNumber kind ++ bs) (next r (λ p rest. readTo kind p rest))
-      go (not n) = not n
-      go (from p rest e) = to-from bs rest p e (behind-bytes (writeSpot p) e h)
-
-shape-from : (kind : ℕ) (bs : List ℕ) → Bytes bs → From writeObject (writeNumber kind ++ bs) (readShape kind bs)
-unfolding readShape
-shape-from kind bs h = go (eqb kind 4) (eqb-true kind 4) (λ e. pair-from kind e bs h)
-  where
-    go : (t : Bool) → (t ≡ true → kind ≡ 4) → (t ≡ false → From writeObject (writeNumber kind ++ bs) (readPair kind bs))
-        → From writeObject (writeNumber kind ++ bs) (cond t (readSide bs) (readPair kind bs))
-    go true y m = subst (λ (k : ℕ). From writeObject (writeNumber k ++ bs) (readSide bs)) (sym (y refl)) (side-from bs h)
-    go false y m = m refl
-
-pub object-from : (bs : List ℕ) → Bytes bs → From writeObject bs (readObject bs)
-unfolding readObject
-object-from bs h = go (number-from bs h)
-  where
-    go : {r : Reading ℕ} → From writeNumber bs r
-        → From writeObject bs (next r (λ kind rest. cond (outside (pos 1) (pos 4) (pos kind)) (no (pos 1)) (readShape kind rest)))
-    go (not n) = not n
-    go (from kind rest e) = second (outside (pos 1) (pos 4) (pos kind))
+  module _ (kind : ℕ) (other : eqb kind 4 ≡ false) where
+    to-from :
+        (bs rest : List ℕ) (p : Vec) → bs ≡ writePoint nought p ++ rest → Bytes rest
+        → From (writeObject f) (writeNumber kind ++ bs) (readTo f kind p rest)
+    unfolding readTo writeShape writeObject
+    to-from bs rest p e h = go (point-from (originOf f p) rest h)
       where
-        second : (t : Bool) → From writeObject bs (cond t (no (pos 1)) (readShape kind rest))
-        second true = not (pos 1)
-        second false =
-            subst (λ (l : List ℕ). From writeObject l (readShape kind rest)) (sym e) (shape-from kind rest (behind-bytes (writeNumber kind) e h))
+        go : {r : Reading Vec} → From (writePoint (originOf f p)) rest r
+            → From (writeObject f) (writeNumber kind ++ bs)
+            (next r (λ q rest. checked (equal (p .x) (p .y) (q .x) (q .y)) (pos 3) (object (pos kind) (p .x) (p .y) (q .x) (q .y)) rest))
+        go (not n) = not n
+        go (from q rest′ g) =
+            let both = e
+            ∙ ap (λ (l : List ℕ). writePoint nought p ++ l) g
+            ∙ sym (append-assoc (writePoint nought p) (writePoint (originOf f p) q) rest′) in
+            from-checked (equal (p .x) (p .y) (q .x) (q .y)) (pos 3) (object (pos kind) (p .x) (p .y) (q .x) (q .y)) rest′
+            (simp other
+            (ap (λ (l : List ℕ). writeNumber kind ++ l) both ∙ sym (append-assoc (writeNumber kind) (writePair f p q) rest′)))
+
+    pair-from : (bs : List ℕ) → Bytes bs → From (writeObject f) (writeNumber kind ++ bs) (readPair f kind bs)
+    unfolding readPair
+    pair-from bs h = go (point-from nought bs h)
+      where
+        go : {r : Reading Vec} → From (writePoint nought) bs r → From (writeObject f) (writeNumber kind ++ bs) (next r (λ p rest. readTo f kind p rest))
+        go (not n) = not n
+        go (from p rest e) = to-from bs rest p e (behind-bytes (writePoint nought p) e h)
+
+  shape-from : (kind : ℕ) (bs : List ℕ) → Bytes bs → From (writeObject f) (writeNumber kind ++ bs) (readShape f kind bs)
+  unfolding readShape
+  shape-from kind bs h = go (eqb kind 4) (eqb-true kind 4) (λ e. pair-from kind e bs h)
+    where
+      go : (t : Bool) → (t ≡ true → kind ≡ 4) → (t ≡ false → From (writeObject f) (writeNumber kind ++ bs) (readPair f kind bs))
+          → From (writeObject f) (writeNumber kind ++ bs) (cond t (readSide bs) (readPair f kind bs))
+      go true y m = subst (λ (k : ℕ). From (writeObject f) (writeNumber k ++ bs) (readSide bs)) (sym (y refl)) (side-from bs h)
+      go false y m = m refl
+
+  pub object-from : (bs : List ℕ) → Bytes bs → From (writeObject f) bs (readObject f bs)
+  unfolding readObject
+  object-from bs h = go (number-from bs h)
+    where
+      go : {r : Reading ℕ} → From writeNumber bs r
+          → From (writeObject f) bs (next r (λ kind rest. cond (outside (pos 1) (pos 4) (pos kind)) (no (pos 1)) (readShape f kind rest)))
+      go (not n) = not n
+      go (from kind rest e) = second (outside (pos 1) (pos 4) (pos kind))
+        where
+          second : (t : Bool) → From (writeObject f) bs (cond t (no (pos 1)) (readShape f kind rest))
+          second true = not (pos 1)
+          second false =
+              subst (λ (l : List ℕ). From (writeObject f) l (readShape f kind rest)) (sym e)
+              (shape-from kind rest (behind-bytes (writeNumber kind) e h))

@@ -11,41 +11,42 @@ use Rattle.whole.specs.Flag.{eqZ}
 use Rattle.sheet.specs.declared.Object.{Object}
 use Rattle.sheet.specs.Answers.{objectNumbers}
 use Rattle.sheet.specs.Lists.{width, objectAt}
-use Rattle.store.specs.declared.Place.{Place}
+use Rattle.store.specs.declared.Bookmark.{Bookmark}
 use Rattle.store.specs.declared.Item.{Item}
 use Rattle.store.specs.declared.Item.the-variants.{One, End, Refused}
 use Rattle.store.specs.declared.Stepped.{Stepped}
 use Rattle.store.specs.declared.Reader.{Reader}
 use Rattle.store.specs.declared.Taken.{Taken}
-use Rattle.store.specs.Stored.{Drawing, Reading, got, no, readObject, readCount}
+use Rattle.number.specs.Number.{Reading, got, no}
+use Rattle.store.specs.Stored.{plain, Drawing, readObject, readCount}
 
 -- before the first call: "its first call also reads the count"
-abbrev pub startPlace : Place
+abbrev pub startPlace : Bookmark
 startPlace = record { begun = false; left = 0; at = 0 }
 
 -- where the rest of the bytes begins
-abbrev pub placeOf : List ℕ → List ℕ → ℕ
-placeOf bs rest = length bs - length rest
+abbrev pub restBegins : List ℕ → List ℕ → ℕ
+restBegins bs rest = length bs - length rest
 
-abbrev pub stepTo : Item → Place → Stepped
+abbrev pub stepTo : Item → Bookmark → Stepped
 stepTo i p = record { item = i; place = p }
 
 -- "end and refusal keep its place"
-abbrev pub stepObject : List ℕ → Place → ℕ → Reading Object → Stepped
-stepObject bs p left (got o rest) = stepTo (One o) (record { begun = true; left = left; at = placeOf bs rest })
+abbrev pub stepObject : List ℕ → Bookmark → ℕ → Reading Object → Stepped
+stepObject bs p left (got o rest) = stepTo (One o) (record { begun = true; left = left; at = restBegins bs rest })
 stepObject bs p left (no n) = stepTo (Refused n) p
 
 -- one call at the place p, where left objects are left and the next one begins at `at`.
 -- "After the last it says end, or 9 if bytes remain"
-unfoldable pub stepFrom : List ℕ → Place → ℕ → ℕ → Stepped
+unfoldable pub stepFrom : List ℕ → Bookmark → ℕ → ℕ → Stepped
 stepFrom bs p zero at = stepTo (cond (ltb at (length bs)) (Refused (pos 9)) End) p
-stepFrom bs p (suc left) at = stepObject bs p left (readObject (drop at bs))
+stepFrom bs p (suc left) at = stepObject bs p left (readObject plain (drop at bs))
 
-abbrev pub stepCounted : List ℕ → Place → Reading ℕ → Stepped
-stepCounted bs p (got n rest) = stepFrom bs p n (placeOf bs rest)
+abbrev pub stepCounted : List ℕ → Bookmark → Reading ℕ → Stepped
+stepCounted bs p (got n rest) = stepFrom bs p n (restBegins bs rest)
 stepCounted bs p (no n) = stepTo (Refused n) p
 
-unfoldable pub stepOf : List ℕ → Place → Stepped
+unfoldable pub stepOf : List ℕ → Bookmark → Stepped
 stepOf bs p = cond (p .begun) (stepFrom bs p (p .left) (p .at)) (stepCounted bs p (readCount bs))
 
 -- a call of a reader: the same bytes, at the place after the step
@@ -57,7 +58,7 @@ takenOf r =
     }
 
 -- what call number k gives, where the first call (number 0) is at the place p
-unfoldable pub callFrom : List ℕ → Place → ℕ → Item
+unfoldable pub callFrom : List ℕ → Bookmark → ℕ → Item
 callFrom bs p zero = stepOf bs p .item
 callFrom bs p (suc k) = callFrom bs (stepOf bs p .place) k
 

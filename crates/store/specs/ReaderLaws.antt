@@ -20,12 +20,13 @@ use Rattle.sheet.specs.Limits.{most}
 use Rattle.sheet.specs.Refusal.{Accepted}
 use Rattle.sheet.specs.Lists.{width}
 use Rattle.sheet.specs.ListsLaws.{object-next}
-use Rattle.store.specs.declared.Place.{Place}
+use Rattle.store.specs.declared.Bookmark.{Bookmark}
 use Rattle.store.specs.declared.Item.{Item}
 use Rattle.store.specs.declared.Item.the-variants.{One, End, Refused}
 use Rattle.store.specs.declared.Stepped.{Stepped}
-use Rattle.store.specs.Stored.{Drawing, Reading, got, no, refused, before, andThen, counted, readObject, readObjects, readCount, readDrawing}
-use Rattle.store.specs.Reader.{startPlace, placeOf, stepTo, stepObject, stepFrom, stepCounted, stepOf, callFrom, endOf, itemOf, itemSays}
+use Rattle.number.specs.Number.{Reading, got, no}
+use Rattle.store.specs.Stored.{plain, Drawing, refused, before, andThen, counted, readObject, readObjects, readCount, readDrawing}
+use Rattle.store.specs.Reader.{startPlace, restBegins, stepTo, stepObject, stepFrom, stepCounted, stepOf, callFrom, endOf, itemOf, itemSays}
 use Rattle.store.specs.SureLaws.{Sure, not-nought, sure-object, sure-count}
 use Rattle.store.specs.SureLaws as sure
 use Rattle.store.specs.ObjectsLaws.{objects-end, objects-over}
@@ -62,64 +63,64 @@ item-next o d k =
 -- ---- calls
 
 -- a call that keeps the place says the same for ever
-stays : (bs : List ℕ) (p : Place) (i : Item) → stepOf bs p ≡ stepTo i p → (k : ℕ) → callFrom bs p k ≡ i
+stays : (bs : List ℕ) (p : Bookmark) (i : Item) → stepOf bs p ≡ stepTo i p → (k : ℕ) → callFrom bs p k ≡ i
 unfolding callFrom
 stays bs p i e zero = ap (λ (s : Stepped). s .item) e
 stays bs p i e (suc k) = ap (λ (s : Stepped). callFrom bs (s .place) k) e ∙ stays bs p i e k
 
-call-next : (bs : List ℕ) (p : Place) (k : ℕ) → callFrom bs p (suc k) ≡ callFrom bs (stepOf bs p .place) k
+call-next : (bs : List ℕ) (p : Bookmark) (k : ℕ) → callFrom bs p (suc k) ≡ callFrom bs (stepOf bs p .place) k
 unfolding callFrom
 call-next bs p k = refl
 
-step-begun : (bs : List ℕ) (left at : ℕ) → let p : Place = record { begun = true; left = left; at = at } in stepOf bs p
+step-begun : (bs : List ℕ) (left at : ℕ) → let p : Bookmark = record { begun = true; left = left; at = at } in stepOf bs p
     ≡ stepFrom bs p left at
 unfolding stepOf
 step-begun bs left at = refl
 
 -- where the rest begins
 rest-at : (bs front rest : List ℕ) (at : ℕ) → at ≤ length bs → drop at bs ≡ front ++ rest
-    → (placeOf bs rest ≤ length bs) × (drop (placeOf bs rest) bs ≡ rest)
+    → (restBegins bs rest ≤ length bs) × (drop (restBegins bs rest) bs ≡ rest)
 rest-at bs front rest at h e =
     let long = ap length e ∙ length-append front rest in
-    let place : placeOf bs rest ≡ at + length front = omega (arith, length-drop at bs) in (
+    let place : restBegins bs rest ≡ at + length front = omega (arith, length-drop at bs) in (
       omega arith,
       ap (λ (k : ℕ). drop k bs) place ∙ sym (drop-drop (length front) at bs) ∙ ap (drop (length front)) e ∙ drop-at front rest
           (length front) refl,
     )
 
 runs :
-    (left : ℕ) (bs : List ℕ) (at : ℕ) (p : Place) → at ≤ length bs → stepOf bs p ≡ stepFrom bs p left at → (k : ℕ)
-    → callFrom bs p k ≡ itemOf (readObjects left (drop at bs)) k
+    (left : ℕ) (bs : List ℕ) (at : ℕ) (p : Bookmark) → at ≤ length bs → stepOf bs p ≡ stepFrom bs p left at → (k : ℕ)
+    → callFrom bs p k ≡ itemOf (readObjects plain left (drop at bs)) k
 unfolding stepFrom readObjects
 runs zero bs at p h e k = go (ltb at (length bs)) (ltb-true at (length bs)) (ltb-false at (length bs)) e
   where
     go : (t : Bool) → (t ≡ true → at < length bs) → (t ≡ false → length bs ≤ at) → stepOf bs p ≡ stepTo (cond t (Refused (pos 9)) End) p
-        → callFrom bs p k ≡ itemOf (readObjects 0 (drop at bs)) k
+        → callFrom bs p k ≡ itemOf (readObjects plain 0 (drop at bs)) k
     go true y m e =
         let l = y refl in
         stays bs p (Refused (pos 9)) e k
-        ∙ sym (ap (λ (d : Drawing). itemOf d k) (objects-over (drop at bs) (omega (arith, length-drop at bs))) ∙ item-none (pos 9) k)
+        ∙ sym (ap (λ (d : Drawing). itemOf d k) (objects-over plain (drop at bs) (omega (arith, length-drop at bs))) ∙ item-none (pos 9) k)
     go false y m e =
         let l = m refl in
         stays bs p End e k
-        ∙ sym (ap (λ (d : Drawing). itemOf d k) (objects-end (drop at bs) (omega (arith, length-drop at bs))) ∙ item-none (pos 0) k)
-runs (suc left) bs at p h e k = go (sure-object (drop at bs)) (runs left bs) e k
+        ∙ sym (ap (λ (d : Drawing). itemOf d k) (objects-end plain (drop at bs) (omega (arith, length-drop at bs))) ∙ item-none (pos 0) k)
+runs (suc left) bs at p h e k = go (sure-object plain (drop at bs)) (runs left bs) e k
   where
     go : {r : Reading Object} → Sure Accepted (drop at bs) r
-        → ((at : ℕ) (p : Place) → at ≤ length bs → stepOf bs p ≡ stepFrom bs p left at → (k : ℕ)
-        → callFrom bs p k ≡ itemOf (readObjects left (drop at bs)) k)
-        → stepOf bs p ≡ stepObject bs p left r → (k : ℕ) → callFrom bs p k ≡ itemOf (andThen r (λ rest. readObjects left rest)) k
+        → ((at : ℕ) (p : Bookmark) → at ≤ length bs → stepOf bs p ≡ stepFrom bs p left at → (k : ℕ)
+        → callFrom bs p k ≡ itemOf (readObjects plain left (drop at bs)) k)
+        → stepOf bs p ≡ stepObject bs p left r → (k : ℕ) → callFrom bs p k ≡ itemOf (andThen r (λ rest. readObjects plain left rest)) k
     go (sure.refused n z) more e k = stays bs p (Refused (pos n)) e k ∙ sym (item-none (pos n) k ∙ simp (not-nought n z))
     go (sure.read o front rest f a) more e zero =
-        sym (first-call bs p) ∙ ap (λ (s : Stepped). s .item) e ∙ sym (item-first o (readObjects left rest))
+        sym (first-call bs p) ∙ ap (λ (s : Stepped). s .item) e ∙ sym (item-first o (readObjects plain left rest))
     go (sure.read o front rest f a) more e (suc k) =
         let there = rest-at bs front rest at h f in
-        let on : Place = record { begun = true; left = left; at = placeOf bs rest } in
+        let on : Bookmark = record { begun = true; left = left; at = restBegins bs rest } in
         call-next bs p k
         ∙ ap (λ (s : Stepped). callFrom bs (s .place) k) e
-        ∙ more (placeOf bs rest) on (there .0) (step-begun bs left (placeOf bs rest)) k
-        ∙ ap (λ (l : List ℕ). itemOf (readObjects left l) k) (there .1)
-        ∙ sym (item-next o (readObjects left rest) k)
+        ∙ more (restBegins bs rest) on (there .0) (step-begun bs left (restBegins bs rest)) k
+        ∙ ap (λ (l : List ℕ). itemOf (readObjects plain left l) k) (there .1)
+        ∙ sym (item-next o (readObjects plain left rest) k)
 
 -- "calling it again and again gives exactly the objects of the drawing in order and then end, or the objects before the refusal and then
 -- that refusal"
@@ -127,31 +128,31 @@ pub calls-give : (bs : List ℕ) (k : ℕ) → callFrom bs startPlace k ≡ item
 unfolding readDrawing stepOf
 calls-give bs k = go (sure-count bs) refl
   where
-    go : {r : Reading ℕ} → Sure (λ n. n ≤ most) bs r → stepOf bs startPlace ≡ stepCounted bs startPlace r → callFrom bs startPlace k ≡ itemOf (counted r) k
+    go : {r : Reading ℕ} → Sure (λ n. n ≤ most) bs r → stepOf bs startPlace ≡ stepCounted bs startPlace r → callFrom bs startPlace k ≡ itemOf (counted plain r) k
     go (sure.refused n z) e = stays bs startPlace (Refused (pos n)) e k ∙ sym (item-none (pos n) k ∙ simp (not-nought n z))
     go (sure.read n front rest f a) e =
         let there = rest-at bs front rest 0 (omega arith) f in
-        runs n bs (placeOf bs rest) startPlace (there .0) e k ∙ ap (λ (l : List ℕ). itemOf (readObjects n l) k) (there .1)
+        runs n bs (restBegins bs rest) startPlace (there .0) e k ∙ ap (λ (l : List ℕ). itemOf (readObjects plain n l) k) (there .1)
 
 -- ---- the end and a refusal
 
-kept : (bs : List ℕ) (p : Place) (left : ℕ) (r : Reading Object)
+kept : (bs : List ℕ) (p : Bookmark) (left : ℕ) (r : Reading Object)
     → ((o : Object) → stepObject bs p left r .item ≡ One o → ⊥) → stepObject bs p left r .place ≡ p
 kept bs p left (got o rest) h = absurd (h o refl)
 kept bs p left (no n) h = refl
 
-kept-from : (bs : List ℕ) (p : Place) (left at : ℕ) → ((o : Object) → stepFrom bs p left at .item ≡ One o → ⊥)
+kept-from : (bs : List ℕ) (p : Bookmark) (left at : ℕ) → ((o : Object) → stepFrom bs p left at .item ≡ One o → ⊥)
     → stepFrom bs p left at .place ≡ p
 unfolding stepFrom
 kept-from bs p zero at h = refl
-kept-from bs p (suc left) at h = kept bs p left (readObject (drop at bs)) h
+kept-from bs p (suc left) at h = kept bs p left (readObject plain (drop at bs)) h
 
-kept-counted : (bs : List ℕ) (p : Place) (r : Reading ℕ) → ((o : Object) → stepCounted bs p r .item ≡ One o → ⊥)
+kept-counted : (bs : List ℕ) (p : Bookmark) (r : Reading ℕ) → ((o : Object) → stepCounted bs p r .item ≡ One o → ⊥)
     → stepCounted bs p r .place ≡ p
-kept-counted bs p (got n rest) h = kept-from bs p n (placeOf bs rest) h
+kept-counted bs p (got n rest) h = kept-from bs p n (restBegins bs rest) h
 kept-counted bs p (no n) h = refl
 
-pub keeps : (bs : List ℕ) (p : Place) → ((o : Object) → stepOf bs p .item ≡ One o → ⊥) → stepOf bs p .place ≡ p
+pub keeps : (bs : List ℕ) (p : Bookmark) → ((o : Object) → stepOf bs p .item ≡ One o → ⊥) → stepOf bs p .place ≡ p
 unfolding stepOf
 keeps bs p h = go (p .begun) h
   where

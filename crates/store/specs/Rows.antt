@@ -3,18 +3,20 @@ use mathlib.Core.Path.{_≡_, refl}
 use mathlib.Core.List.{List, [], _∷_}
 use Prim.Native.Nat.{ℕ}
 use lib.IntN.{ℤ, pos, negsuc}
+use Rattle.whole.specs.InTurn.{inTurn}
 use Rattle.whole.specs.Sign.{sgn}
 use Rattle.whole.specs.Divisor.{steps, gcd, gcdOf}
 use Rattle.sheet.specs.declared.Point.{Point}
-use Rattle.sheet.specs.Figure.{sideOf, figure}
+use Rattle.sheet.specs.Figure.{sideOf, figureOf}
 use Rattle.sheet.specs.Points.{divided}
 use Rattle.sheet.specs.Ends.{farRaw, farEnd, firstEnd, lastEnd}
 use Rattle.sheet.specs.Signs.{order, turnPoly, turn}
 use Rattle.sheet.specs.Crossing as crossing
 use Rattle.sheet.specs.Refusal.{sideRefusal, pairRefusal, objectRefusal}
-use Rattle.sheet.specs.Lists.{firstRefusal, listRefusal}
+use Rattle.sheet.specs.Lists.{listRefusal}
 use Rattle.sheet.specs.Cases.{line, ray, side, point, at}
-use Rattle.store.specs.Stored.{writeGroups, writeShape, writeObject, writeObjects, writeDrawing, readGroups, readCoordinate, readSide, readPoint, readTo, readPair, readShape, readObject, readObjects, readCount, readDrawing}
+use Rattle.number.specs.Number.{writeGroups, readGroups}
+use Rattle.store.specs.Stored.{writeShape, writeObject, writeDrawing, readCoordinate, readSide, readPoint, readTo, readPair, readShape, readObject, readObjects, readCount, readDrawing}
 
 row-4 : Point
 row-4 = lastEnd (line (pos 0) (pos 1) (pos 2) (pos 2))
@@ -60,7 +62,7 @@ pub record WorkedRows : Type 0 where
   ten-back : writeDrawing row-objects ≡ row-bytes
 
 pub worked-rows : WorkedRows
-unfolding crossing.pieces crossing.withSide crossing.withPiece crossing.meeting crossing.crossingOf sgn steps gcd gcdOf sideOf figure divided farRaw farEnd firstEnd lastEnd row-4 order turnPoly turn row-bytes row-objects writeGroups writeShape writeObject writeObjects writeDrawing firstRefusal listRefusal readGroups readCoordinate readSide readPoint readTo readPair readShape readObject readObjects readCount readDrawing sideRefusal pairRefusal objectRefusal
+unfolding crossing.stretches crossing.withSide crossing.withStretch crossing.meeting crossing.crossingOf sgn steps gcd gcdOf sideOf figureOf divided farRaw farEnd firstEnd lastEnd row-4 order turnPoly turn row-bytes row-objects writeGroups writeShape writeObject writeDrawing inTurn listRefusal readGroups readCoordinate readSide readPoint readTo readPair readShape readObject readObjects readCount readDrawing sideRefusal pairRefusal objectRefusal
 worked-rows = record {
   one = refl;
   two = refl;

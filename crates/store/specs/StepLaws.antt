@@ -19,11 +19,11 @@ use mir.Val.{ofZ}
 use Rattle.whole.specs.Tests.{eq-left}
 use Rattle.sheet.specs.AnswersLaws.{not-refused}
 use Rattle.sheet.specs.declared.Object.{Object}
-use Rattle.store.specs.declared.Place.{Place}
+use Rattle.store.specs.declared.Bookmark.{Bookmark}
 use Rattle.store.specs.declared.Item.the-variants.{One, End, Refused}
-use Rattle.store.specs.Stored.{readObject, readCount}
-use Rattle.store.specs.Reader.{placeOf, stepTo, stepObject, stepFrom, stepCounted, stepOf, callFrom}
-use Rattle.store.specs.Tells.{Tells}
+use Rattle.store.specs.Stored.{plain, readObject, readCount}
+use Rattle.store.specs.Reader.{restBegins, stepTo, stepObject, stepFrom, stepCounted, stepOf, callFrom}
+use Rattle.number.specs.ReadAs.{ReadAs}
 
 -- the rest from a place, or from the end where the place is past it
 drop-min : (at : ℕ) (bs : List ℕ) → drop (min at (length bs)) bs ≡ drop at bs
@@ -35,7 +35,7 @@ drop-min at bs = go (leb at (length bs)) (leb-true at (length bs)) (leb-false at
         let h = m refl in
         drop-of-length-le bs {i = min at (length bs)} (omega arith) ∙ sym (drop-of-length-le bs {i = at} (omega arith))
 
-module _ (bs : List ℕ) (p : Place) (left at : ℕ) where
+module _ (bs : List ℕ) (p : Bookmark) (left at : ℕ) where
   pub step-over : left ≡ 0 → at < length bs → stepFrom bs p left at ≡ stepTo (Refused (pos 9)) p
   unfolding stepFrom
   step-over e h = ap (λ (k : ℕ). stepFrom bs p k at) e ∙ simp (lt-ltb at (length bs) h)
@@ -44,40 +44,40 @@ module _ (bs : List ℕ) (p : Place) (left at : ℕ) where
   unfolding stepFrom
   step-end e h = ap (λ (k : ℕ). stepFrom bs p k at) e ∙ simp (le-ltb at (length bs) h)
 
-  step-suc : 0 < left → stepFrom bs p left at ≡ stepObject bs p (left - 1) (readObject (drop at bs))
+  step-suc : 0 < left → stepFrom bs p left at ≡ stepObject bs p (left - 1) (readObject plain (drop at bs))
   unfolding stepFrom
   step-suc h = go left h
     where
-      go : (left : ℕ) → 0 < left → stepFrom bs p left at ≡ stepObject bs p (left - 1) (readObject (drop at bs))
+      go : (left : ℕ) → 0 < left → stepFrom bs p left at ≡ stepObject bs p (left - 1) (readObject plain (drop at bs))
       go zero h = absurd (omega arith)
-      go (suc k) h = let e : k ≡ suc k - 1 = omega arith in ap (λ (j : ℕ). stepObject bs p j (readObject (drop at bs))) e
+      go (suc k) h = let e : k ≡ suc k - 1 = omega arith in ap (λ (j : ℕ). stepObject bs p j (readObject plain (drop at bs))) e
 
   module _ {s : ℕ} {n : ℤ} {o : Object} {size : ℕ} (h : 0 < left) (e : s ≡ min at (length bs))
-      (t : Tells (drop s bs) (readObject (drop s bs)) n o size) (ok : mag n < 2 ^ 63) where
+      (t : ReadAs (drop s bs) (readObject plain (drop s bs)) n o size) (ok : mag n < 2 ^ 63) where
     here : drop at bs ≡ drop s bs
     here = sym (drop-min at bs) ∙ ap (λ (k : ℕ). drop k bs) (sym e)
 
     pub step-refused : (ofZ w64 n ≡ 0 → ⊥) → stepFrom bs p left at ≡ stepTo (Refused n) p
     step-refused d =
         step-suc h
-        ∙ ap (λ (l : List ℕ). stepObject bs p (left - 1) (readObject l)) here
+        ∙ ap (λ (l : List ℕ). stepObject bs p (left - 1) (readObject plain l)) here
         ∙ ap (stepObject bs p (left - 1)) (t .refused (eq-left {x = n} {y = pos 0} d))
 
     pub step-one : ofZ w64 n ≡ 0 → stepFrom bs p left at ≡ stepTo (One o) (record { begun = true; left = left - 1; at = s + size })
     step-one z =
-        let place : placeOf bs (drop size (drop s bs)) ≡ s + size =
+        let place : restBegins bs (drop size (drop s bs)) ≡ s + size =
         omega (arith, length-drop size (drop s bs), length-drop s bs, t .within, e) in
         step-suc h
-        ∙ ap (λ (l : List ℕ). stepObject bs p (left - 1) (readObject l)) here
+        ∙ ap (λ (l : List ℕ). stepObject bs p (left - 1) (readObject plain l)) here
         ∙ ap (stepObject bs p (left - 1)) (t .taken (not-refused ok refl z))
         ∙ ap (λ (k : ℕ). stepTo (One o) (record { begun = true; left = left - 1; at = k })) place
 
 -- the first of several calls
-pub first-call : (bs : List ℕ) (p : Place) → stepOf bs p .item ≡ callFrom bs p 0
+pub first-call : (bs : List ℕ) (p : Bookmark) → stepOf bs p .item ≡ callFrom bs p 0
 unfolding callFrom
 first-call bs p = refl
 
-module _ (bs : List ℕ) (p : Place) {n : ℤ} {v size : ℕ} (t : Tells bs (readCount bs) n v size) (ok : mag n < 2 ^ 63) where
+module _ (bs : List ℕ) (p : Bookmark) {n : ℤ} {v size : ℕ} (t : ReadAs bs (readCount bs) n v size) (ok : mag n < 2 ^ 63) where
   pub count-refused : p .begun ≡ false → (ofZ w64 n ≡ 0 → ⊥) → stepOf bs p ≡ stepTo (Refused n) p
   unfolding stepOf
   count-refused b d = simp b (ap (stepCounted bs p) (t .refused (eq-left {x = n} {y = pos 0} d)))
@@ -85,6 +85,6 @@ module _ (bs : List ℕ) (p : Place) {n : ℤ} {v size : ℕ} (t : Tells bs (rea
   pub count-taken : p .begun ≡ false → ofZ w64 n ≡ 0 → stepOf bs p ≡ stepFrom bs p v size
   unfolding stepOf
   count-taken b z =
-      let place : placeOf bs (drop size bs) ≡ size = omega (arith, length-drop size bs, t .within) in
+      let place : restBegins bs (drop size bs) ≡ size = omega (arith, length-drop size bs, t .within) in
       simp b
       (ap (stepCounted bs p) (t .taken (not-refused ok refl z)) ∙ ap (stepFrom bs p v) place)

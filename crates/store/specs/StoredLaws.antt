@@ -12,6 +12,7 @@ use borrow.Author.Tests.{le-ltb}
 use lib.Dec.{ltb}
 use lib.IntN.{ℤ, pos}
 use lib.ListN.{length}
+use Rattle.whole.specs.InTurn.{inTurn}
 use Rattle.whole.specs.Tests.{eqZ-false}
 use Rattle.sheet.specs.declared.Object.{Object}
 use Rattle.sheet.specs.Limits.{most}
@@ -19,11 +20,14 @@ use Rattle.sheet.specs.Refusal.{Accepted}
 use Rattle.sheet.specs.Answers.{objectNumbers}
 use Rattle.sheet.specs.Lists.{width, countOf, objectAt, listRefusal}
 use Rattle.sheet.specs.ListsLaws.{listable, is-listable, object-next}
-use Rattle.store.specs.Stored.{Drawing, Reading, next, checked, refused, before, andThen, counted, writeNumber, writeObject, writeObjects, writeDrawing, readObjects, readCount, readDrawing}
+use Rattle.number.specs.Number.{Reading, next, checked, writeNumber, Bytes}
+use Rattle.store.specs.Stored.{Form, plain, Drawing, refused, before, andThen, counted, writeObject, writeObjects, writeDrawing, readObject, readObjects, readCount, readDrawing}
 use Rattle.store.specs.SureLaws.{Sure, not-nought, sure-object, sure-count}
 use Rattle.store.specs.SureLaws as sure
 use Rattle.store.specs.ObjectsLaws.{objects-length}
-use Rattle.store.specs.Trip.{Bytes, behind-bytes, From, from, not, from-checked, number-back, number-from}
+use Rattle.store.specs.ListLaws.{objects-first}
+use Rattle.number.specs.TripLaws.{behind-bytes, From, from, not, from-checked, number-back, number-from}
+use Rattle.store.specs.Trip.{Sound, plain-sound}
 use Rattle.store.specs.ObjectTrip.{object-back, object-from}
 
 abbrev taken : List ℤ → Drawing
@@ -35,28 +39,29 @@ Each n l = (i : ℕ) → i < n → Accepted (objectAt l i)
 
 -- ---- written, and then read
 
-objects-back : (n : ℕ) (l : List ℤ) → length l ≡ n * width → Each n l → readObjects n (writeObjects n l) ≡ taken l
-unfolding readObjects writeObjects
-objects-back zero [] e h = refl
-objects-back zero (a ∷ l) e h = absurd (omega arith)
-objects-back (suc n) [] e h = absurd (omega arith)
-objects-back (suc n) (a ∷ []) e h = absurd (omega arith)
-objects-back (suc n) (a ∷ b ∷ []) e h = absurd (omega arith)
-objects-back (suc n) (a ∷ b ∷ c ∷ []) e h = absurd (omega arith)
-objects-back (suc n) (a ∷ b ∷ c ∷ d ∷ []) e h = absurd (omega arith)
-objects-back (suc n) (a ∷ b ∷ c ∷ d ∷ f ∷ l) e h =
-    let o : Object = record { kind = a; px = b; py = c; qx = d; qy = f } in
-    let behind : Each n l = λ i k. subst Accepted (sym (object-next (a ∷ b ∷ c ∷ d ∷ f ∷ l) i)) (h (suc i) (omega arith)) in
-    ap (λ (r : Reading Object). andThen r (λ rest. readObjects n rest)) (object-back o (writeObjects n l) (h 0 (omega arith) .accepted))
-    ∙ ap (before o) (objects-back n l (omega arith) behind)
+objects-back : {f : Form} → Sound f → (n : ℕ) (l : List ℤ) → length l ≡ n * width → Each n l → readObjects f n (writeObjects f n l) ≡ taken l
+unfolding readObjects inTurn
+objects-back sound zero [] e h = refl
+objects-back sound zero (a ∷ l) e h = absurd (omega arith)
+objects-back sound (suc n) [] e h = absurd (omega arith)
+objects-back sound (suc n) (a ∷ []) e h = absurd (omega arith)
+objects-back sound (suc n) (a ∷ b ∷ []) e h = absurd (omega arith)
+objects-back sound (suc n) (a ∷ b ∷ c ∷ []) e h = absurd (omega arith)
+objects-back sound (suc n) (a ∷ b ∷ c ∷ d ∷ []) e h = absurd (omega arith)
+objects-back {f} sound (suc n) (a ∷ b ∷ c ∷ d ∷ g ∷ l) e h =
+    let o : Object = record { kind = a; px = b; py = c; qx = d; qy = g } in
+    let behind : Each n l = λ i k. subst Accepted (sym (object-next (a ∷ b ∷ c ∷ d ∷ g ∷ l) i)) (h (suc i) (omega arith)) in
+    ap (λ (bs : List ℕ). andThen (readObject f bs) (λ rest. readObjects f n rest)) (objects-first f n (a ∷ b ∷ c ∷ d ∷ g ∷ l))
+    ∙ ap (λ (r : Reading Object). andThen r (λ rest. readObjects f n rest)) (object-back sound o (writeObjects f n l) (h 0 (omega arith) .accepted))
+    ∙ ap (before o) (objects-back sound n l (omega arith) behind)
 
 pub read-written : (l : List ℤ) → listRefusal l ≡ pos 0 → readDrawing (writeDrawing l) ≡ taken l
 unfolding readDrawing readCount writeDrawing
 read-written l h =
     let f = listable l h in
     let n = countOf l in
-    simp (number-back n (writeObjects n l) (omega (arith, f .few)), le-ltb most n (f .few))
-    (objects-back n l (sym (f .whole)) (f .each))
+    simp (number-back n (writeObjects plain n l) (omega (arith, f .few)), le-ltb most n (f .few))
+    (objects-back plain-sound n l (sym (f .whole)) (f .each))
 
 -- ---- read, and then written
 
@@ -65,22 +70,23 @@ each-next o n l p h zero k = p
 each-next o n l p h (suc i) k = subst Accepted (object-next (objectNumbers o ++ l) i) (h i (omega arith))
 
 objects-from :
-    (n : ℕ) (bs : List ℕ) → Bytes bs → readObjects n bs .refusal ≡ pos 0
-    → (writeObjects n (readObjects n bs .objects) ≡ bs) × Each n (readObjects n bs .objects)
-unfolding readObjects writeObjects
-objects-from zero [] h e = (refl, λ i k. absurd (omega arith))
-objects-from zero (b ∷ bs) h e = absurd (eqZ-false {a = pos 9} {b = pos 0} refl e)
-objects-from (suc n) bs h e = go (object-from bs h) (sure-object bs) (objects-from n) e
+    (f : Form) (n : ℕ) (bs : List ℕ) → Bytes bs → readObjects f n bs .refusal ≡ pos 0
+    → (writeObjects f n (readObjects f n bs .objects) ≡ bs) × Each n (readObjects f n bs .objects)
+unfolding readObjects inTurn
+objects-from f zero [] h e = (refl, λ i k. absurd (omega arith))
+objects-from f zero (b ∷ bs) h e = absurd (eqZ-false {a = pos 9} {b = pos 0} refl e)
+objects-from f (suc n) bs h e = go (object-from f bs h) (sure-object f bs) (objects-from f n) e
   where
-    go : {r : Reading Object} → From writeObject bs r → Sure Accepted bs r
-        → ((rest : List ℕ) → Bytes rest → readObjects n rest .refusal ≡ pos 0
-        → (writeObjects n (readObjects n rest .objects) ≡ rest) × Each n (readObjects n rest .objects))
-        → andThen r (λ rest. readObjects n rest) .refusal ≡ pos 0
-        → (writeObjects (suc n) (andThen r (λ rest. readObjects n rest) .objects) ≡ bs)
-        × Each (suc n) (andThen r (λ rest. readObjects n rest) .objects)
-    go (from o rest f) (sure.read a front end g p) behind e =
-        let k = behind rest (behind-bytes (writeObject o) f h) e in
-        (ap (λ (l : List ℕ). writeObject o ++ l) (k .0) ∙ sym f, each-next o n (readObjects n rest .objects) p (k .1))
+    go : {r : Reading Object} → From (writeObject f) bs r → Sure Accepted bs r
+        → ((rest : List ℕ) → Bytes rest → readObjects f n rest .refusal ≡ pos 0
+        → (writeObjects f n (readObjects f n rest .objects) ≡ rest) × Each n (readObjects f n rest .objects))
+        → andThen r (λ rest. readObjects f n rest) .refusal ≡ pos 0
+        → (writeObjects f (suc n) (andThen r (λ rest. readObjects f n rest) .objects) ≡ bs)
+        × Each (suc n) (andThen r (λ rest. readObjects f n rest) .objects)
+    go (from o rest x) (sure.read a front end g p) behind e =
+        let k = behind rest (behind-bytes (writeObject f o) x h) e in
+        let l = readObjects f n rest .objects in
+        (objects-first f n (objectNumbers o ++ l) ∙ ap (λ (bs : List ℕ). writeObject f o ++ bs) (k .0) ∙ sym x, each-next o n (readObjects f n rest .objects) p (k .1))
     go (not n) (sure.refused m z) behind e = absurd (eqZ-false (not-nought m z) e)
 
 count-from : (bs : List ℕ) → Bytes bs → From writeNumber bs (readCount bs)
@@ -99,14 +105,14 @@ pub written-read : (bs : List ℕ) → Bytes bs → readDrawing bs .refusal ≡ 
 unfolding readDrawing writeDrawing
 written-read bs h e = go (count-from bs h) (sure-count bs) e
   where
-    go : {r : Reading ℕ} → From writeNumber bs r → Sure (λ n. n ≤ most) bs r → counted r .refusal ≡ pos 0 → Again bs (counted r)
+    go : {r : Reading ℕ} → From writeNumber bs r → Sure (λ n. n ≤ most) bs r → counted plain r .refusal ≡ pos 0 → Again bs (counted plain r)
     go (from n rest f) (sure.read a front end g p) e =
-        let l = readObjects n rest .objects in
-        let k = objects-from n rest (behind-bytes (writeNumber n) f h) e in
-        let long = objects-length n rest e in
+        let l = readObjects plain n rest .objects in
+        let k = objects-from plain n rest (behind-bytes (writeNumber n) f h) e in
+        let long = objects-length plain n rest e in
         let count : countOf l ≡ n = omega arith in
         record {
-          again = (λ i. writeNumber (count i) ++ writeObjects (count i) l) ∙ ap (λ (x : List ℕ). writeNumber n ++ x) (k .0) ∙ sym f;
+          again = (λ i. writeNumber (count i) ++ writeObjects plain (count i) l) ∙ ap (λ (x : List ℕ). writeNumber n ++ x) (k .0) ∙ sym f;
           accepted = is-listable l (record { whole = omega arith; few = omega arith; each = λ i b. k .1 i (omega arith) });
         }
     go (not n) (sure.refused m z) e = absurd (eqZ-false (not-nought m z) e)

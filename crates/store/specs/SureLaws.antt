@@ -5,18 +5,20 @@
 -- Assumes nothing.
 use mathlib.Core.Path.{_≡_, refl, sym, ap, _∙_}
 use mathlib.Core.Bool.{Bool, true, false, cond, true≢false}
-use mathlib.Core.List.{List, [], _∷_, _++_, append-assoc}
+use mathlib.Core.List.{List, [], _++_, append-assoc}
 use Prim.Native.Nat.{ℕ, zero, suc, _≤_}
 use native.Mathlib.Omega.{arith}
 use borrow.Author.Tests.{ltb-false, ne-eqb}
 use lib.Dec.{ltb, eqb}
-use lib.IntN.{pos}
+use lib.IntN.{ℤ, pos, _+ℤ_}
 use Rattle.whole.specs.Flag.{eqZ}
-use Rattle.sheet.specs.Figure.{Vec}
+use Rattle.sheet.specs.Figure.{vec, Vec}
 use Rattle.sheet.specs.Limits.{most}
 use Rattle.sheet.specs.Refusal.{outside, beyond, equal, pairRefusal, sideRefusal, objectRefusal, Accepted}
 use Rattle.sheet.specs.RefusalTable.{among}
-use Rattle.store.specs.Stored.{group, Reading, got, no, next, checked, pairOf, readGroups, readNumber, unzigzag, readCoordinate, readPoint, readSide, readTo, readPair, readShape, readObject, readCount}
+use Rattle.number.specs.Number.{Reading, got, no, next, checked, readNumber, unzigzag}
+use Rattle.store.specs.Stored.{Form, nought, originOf, readCoordinate, readPoint, readSide, readTo, readPair, readShape, readObject, readCount}
+use Rattle.number.specs.NumberLaws.{Numbered, number, ends, wrong, number-is}
 use Rattle.store.specs.Refusals.{ofBytes}
 
 pub data Sure {A : Type 0} (P : A → Type 0) (bs : List ℕ) : Reading A → Type 0 where
@@ -52,34 +54,26 @@ sure-checked t n a rest e f = sure-cond t (refused n e) (λ z. read a [] rest re
 abbrev pub Any : {A : Type 0} → A → Type 0
 Any a = Unit {0}
 
-sure-groups : (more : ℕ) (bs : List ℕ) → Sure Any bs (readGroups more bs)
-unfolding readGroups
-sure-groups zero [] = refused 7 refl
-sure-groups (suc more) [] = refused 7 refl
-sure-groups zero (b ∷ bs) = sure-cond (ltb b group) (read b (b ∷ []) bs refl tt) (λ z. refused 8 refl)
-sure-groups (suc more) (b ∷ bs) =
-    sure-cond (ltb b group) (read b (b ∷ []) bs refl tt)
-    (λ z. go (sure-next (sure-groups more bs) (λ n rest u. sure-checked (eqb n 0) 8 _ rest refl (λ f. tt))))
-  where
-    go : {r : Reading ℕ} → Sure Any bs r → Sure Any (b ∷ bs) r
-    go (refused n z) = refused n z
-    go (read n front rest e u) = read n (b ∷ front) rest (ap (λ (l : List ℕ). b ∷ l) e) u
-
 pub sure-number : (bs : List ℕ) → Sure Any bs (readNumber bs)
-sure-number bs = sure-groups 1 bs
+sure-number bs = go (number-is bs)
+  where
+    go : {r : Reading ℕ} → Numbered bs r → Sure Any bs r
+    go (number n front rest e) = read n front rest e tt
+    go ends = refused 7 refl
+    go wrong = refused 8 refl
 
-pub sure-coordinate : (bs : List ℕ) → Sure (λ z. beyond z ≡ false) bs (readCoordinate bs)
+pub sure-coordinate : (start : ℤ) (bs : List ℕ) → Sure (λ z. beyond z ≡ false) bs (readCoordinate start bs)
 unfolding readCoordinate
-sure-coordinate bs = sure-next (sure-number bs) (λ n rest u. sure-checked (beyond (unzigzag n)) 2 _ rest refl (λ e. e))
+sure-coordinate start bs = sure-next (sure-number bs) (λ n rest u. sure-checked (beyond (start +ℤ unzigzag n)) 2 _ rest refl (λ e. e))
 
-abbrev Within : Vec → Type 0
+abbrev pub Within : Vec → Type 0
 Within p = (beyond (p .x) ≡ false) × (beyond (p .y) ≡ false)
 
-pub sure-point : (bs : List ℕ) → Sure Within bs (readPoint bs)
+pub sure-point : (start : Vec) (bs : List ℕ) → Sure Within bs (readPoint start bs)
 unfolding readPoint
-sure-point bs =
-    sure-next (sure-coordinate bs)
-    (λ x rest e. sure-next (sure-coordinate rest) (λ y rest f. read (pairOf x y) [] rest refl (e, f)))
+sure-point start bs =
+    sure-next (sure-coordinate (start .x) bs)
+    (λ x rest e. sure-next (sure-coordinate (start .y) rest) (λ y rest f. read (vec x y) [] rest refl (e, f)))
 
 -- ---- objects
 
@@ -89,27 +83,27 @@ sure-side bs =
     sure-next (sure-number bs)
     (λ n rest u. sure-checked (outside (pos 1) (pos 4) (pos n)) 4 _ rest refl (λ e. record { accepted = simp e }))
 
-module _ (kind : ℕ) (in-range : outside (pos 1) (pos 4) (pos kind) ≡ false) (other : eqb kind 4 ≡ false) where
-  sure-to : (p : Vec) (bs : List ℕ) → Within p → Sure Accepted bs (readTo kind p bs)
+module _ (f : Form) (kind : ℕ) (in-range : outside (pos 1) (pos 4) (pos kind) ≡ false) (other : eqb kind 4 ≡ false) where
+  sure-to : (p : Vec) (bs : List ℕ) → Within p → Sure Accepted bs (readTo f kind p bs)
   unfolding readTo objectRefusal pairRefusal
   sure-to p bs h =
-      sure-next (sure-point bs)
+      sure-next (sure-point (originOf f p) bs)
       (λ q rest k. sure-checked (equal (p .x) (p .y) (q .x) (q .y)) 3 _ rest refl
       (λ e. record { accepted = simp (in-range, other, h .0, h .1, k .0, k .1, e) }))
 
-  sure-pair : (bs : List ℕ) → Sure Accepted bs (readPair kind bs)
+  sure-pair : (bs : List ℕ) → Sure Accepted bs (readPair f kind bs)
   unfolding readPair
-  sure-pair bs = sure-next (sure-point bs) (λ p rest h. sure-to p rest h)
+  sure-pair bs = sure-next (sure-point nought bs) (λ p rest h. sure-to p rest h)
 
-sure-shape : (kind : ℕ) (bs : List ℕ) → outside (pos 1) (pos 4) (pos kind) ≡ false → Sure Accepted bs (readShape kind bs)
+sure-shape : (f : Form) (kind : ℕ) (bs : List ℕ) → outside (pos 1) (pos 4) (pos kind) ≡ false → Sure Accepted bs (readShape f kind bs)
 unfolding readShape
-sure-shape kind bs e = sure-cond (eqb kind 4) (sure-side bs) (λ f. sure-pair kind e f bs)
+sure-shape f kind bs e = sure-cond (eqb kind 4) (sure-side bs) (λ z. sure-pair f kind e z bs)
 
-pub sure-object : (bs : List ℕ) → Sure Accepted bs (readObject bs)
+pub sure-object : (f : Form) (bs : List ℕ) → Sure Accepted bs (readObject f bs)
 unfolding readObject
-sure-object bs =
+sure-object f bs =
     sure-next (sure-number bs)
-    (λ kind rest u. sure-cond (outside (pos 1) (pos 4) (pos kind)) (refused 1 refl) (λ e. sure-shape kind rest e))
+    (λ kind rest u. sure-cond (outside (pos 1) (pos 4) (pos kind)) (refused 1 refl) (λ e. sure-shape f kind rest e))
 
 pub sure-count : (bs : List ℕ) → Sure (λ n. n ≤ most) bs (readCount bs)
 unfolding readCount

@@ -1,181 +1,104 @@
--- Numbers and coordinates, written and read again, and back. To cite:
---   Bytes, behind-bytes   each number of a list is a byte, and so of its end
---   From, from-checked    what was read, with what was written for it in front of the rest; or a refusal
---   number-back, number-from           a stored number
---   unzigzag-zigzag, zigzag-unzigzag   what is stored for a coordinate
+-- Coordinates and points, counted from a start, written and read again, and back. To cite:
+--   back, stored-small   from a start and back; what is stored for a coordinate is small
 --   coordinate-back, coordinate-from   a coordinate
---   writeSpot, Near, point-back, point-from   a point, and that it is within the limits
+--   InReach, point-back, point-from       a point, and that it is within the limits
+--   Sound, plain-sound, near-nought, near-origin   a form in which q is counted from within the limits, and document 01's is so
 -- Assumes nothing.
-use mathlib.Core.Path.{_≡_, refl, sym, ap, subst, _∙_}
-use mathlib.Core.Bool.{Bool, true, false, cond}
+use mathlib.Core.Path.{_≡_, refl, sym, ap, _∙_}
+use mathlib.Core.Bool.{false}
 use mathlib.Core.List.{List, [], _∷_, _++_, append-assoc}
-use Prim.Native.Nat.{ℕ, zero, suc, _+_, _*_, _-_, _/_, _%_, _<_, _≤_}
+use Prim.Native.Nat.{ℕ, _+_, _*_, _≤_}
 use native.Mathlib.Omega.{arith}
-use borrow.Author.Tests.{lt-ltb, le-ltb, ltb-true, ltb-false, ne-eqb, eqb-true, eqb-false}
-use lib.Dec.{ltb, eqb}
-use lib.IntN.{ℤ, pos, negsuc}
-use lib.ListN.{getD}
-use Rattle.whole.specs.Bound.{w-intro}
+use lib.IntN.{ℤ, pos, _+ℤ_, _-ℤ_}
+use Rattle.whole.specs.Reify.{reify, reading, solve}
+use Rattle.whole.specs.Within.{Within}
+use Rattle.whole.specs.Bound.{w-intro, w-sub}
 use Rattle.sheet.specs.Limits.{reachSize}
-use Rattle.sheet.specs.Figure.{Vec}
+use Rattle.sheet.specs.Figure.{vec, Vec}
 use Rattle.sheet.specs.Refusal.{beyond}
 use Rattle.sheet.specs.Flags.{flags}
-use Rattle.store.specs.Stored.{limit, numberLimit, Reading, got, no, next, checked, pairOf, writeGroups, writeNumber, zigzag, writePoint, readGroups, readNumber, unzigzag, readCoordinate, readPoint}
-use Rattle.store.specs.WriteLaws.{zigzag-small}
+use Rattle.number.specs.Number.{writeNumber, zigzag, Reading, got, next, checked, unzigzag, Bytes}
+use Rattle.number.specs.TripLaws.{behind-bytes, From, from, not, from-checked, number-back, number-from}
+use Rattle.number.specs.ZigzagLaws.{unzigzag-zigzag, zigzag-unzigzag, zigzag-small}
+use Rattle.store.specs.Stored.{Form, plain, nought, originOf, writeCoordinate, writePoint, readCoordinate, readPoint}
 
--- each is a byte
-pub record Bytes (bs : List ℕ) : Type 0 where
-  pub each : (i : ℕ) → getD bs i 0 < 256
+there : (start z : ℤ) → start +ℤ (z -ℤ start) ≡ z
+there start z = reify (start ∷ z ∷ []) (λ ρ v. simp (reading, v 0, v 1) (solve _ _ _ tt))
 
-pub rest-bytes : {b : ℕ} {bs : List ℕ} → Bytes (b ∷ bs) → Bytes bs
-rest-bytes h = record { each = λ i. h .each (suc i) }
+pub back : (start d : ℤ) → start +ℤ d -ℤ start ≡ d
+back start d = reify (start ∷ d ∷ []) (λ ρ v. simp (reading, v 0, v 1) (solve _ _ _ tt))
 
-pub behind-bytes : (a : List ℕ) {bs rest : List ℕ} → bs ≡ a ++ rest → Bytes bs → Bytes rest
-behind-bytes a {bs} {rest} e h = go a (subst Bytes e h)
-  where
-    go : (a : List ℕ) → Bytes (a ++ rest) → Bytes rest
-    go [] h = h
-    go (x ∷ a) h = go a (rest-bytes h)
+near-within : (z : ℤ) → beyond z ≡ false → Within reachSize z
+near-within z e = let f = simp flags at e in w-intro (f .0) (f .1)
 
--- W is what is written for what is read
-pub data From {A : Type 0} (W : A → List ℕ) (bs : List ℕ) : Reading A → Type 0 where
-  from : (a : A) (rest : List ℕ) → bs ≡ W a ++ rest → From W bs (got a rest)
-  not : (n : ℤ) → From W bs (no n)
+-- the difference of two coordinates, as it is stored
+pub stored-small : (start z : ℤ) → beyond start ≡ false → beyond z ≡ false → zigzag (z -ℤ start) ≤ 4 * reachSize
+stored-small start z h e = omega (arith, zigzag-small (z -ℤ start) (reachSize + reachSize) (w-sub (near-within z e) (near-within start h) .within))
 
-pub from-checked :
-    {A : Type 0} {W : A → List ℕ} {bs : List ℕ} (t : Bool) (n : ℤ) (a : A) (rest : List ℕ) → bs ≡ W a ++ rest → From W bs (checked t n a rest)
-from-checked true n a rest e = not n
-from-checked false n a rest e = from a rest e
-
--- ---- groups
-
-groups-back : (more n : ℕ) (rest : List ℕ) → n < limit more → readGroups more (writeGroups more n ++ rest) ≡ got n rest
-unfolding writeGroups readGroups
-groups-back zero n rest h = simp (lt-ltb n 128 h)
-groups-back (suc more) n rest h =
-    go (ltb n 128) (ltb-true n 128) (ltb-false n 128) (groups-back more (n / 128) rest (omega arith))
-  where
-    go : (t : Bool) → (t ≡ true → n < 128) → (t ≡ false → 128 ≤ n)
-        → readGroups more (writeGroups more (n / 128) ++ rest) ≡ got (n / 128) rest
-        → readGroups (suc more) (cond t (n ∷ []) ((128 + n % 128) ∷ writeGroups more (n / 128)) ++ rest) ≡ got n rest
-    go true y m e = simp (lt-ltb n 128 (y refl))
-    go false y m e =
-        let large : 128 ≤ n = m refl in
-        let some : n / 128 ≡ 0 → ⊥ = λ z. omega arith in
-        let is : 128 + n % 128 - 128 + 128 * (n / 128) ≡ n = omega arith in
-        simp (le-ltb (128 + n % 128) 128 (omega arith), e, ne-eqb (n / 128) 0 some, is)
-
-groups-from : (more : ℕ) (bs : List ℕ) → Bytes bs → From (writeGroups more) bs (readGroups more bs)
-unfolding writeGroups readGroups
-groups-from zero [] h = not (pos 7)
-groups-from (suc more) [] h = not (pos 7)
-groups-from zero (b ∷ bs) h = go (ltb b 128)
-  where
-    go : (t : Bool) → From (writeGroups zero) (b ∷ bs) (cond t (got b bs) (no (pos 8)))
-    go true = from b bs refl
-    go false = not (pos 8)
-groups-from (suc more) (b ∷ bs) h =
-    go (ltb b 128) (ltb-true b 128) (ltb-false b 128) (groups-from more bs (rest-bytes h))
-  where
-    second : 128 ≤ b → {r : Reading ℕ} → From (writeGroups more) bs r
-        → From (writeGroups (suc more)) (b ∷ bs) (next r (λ n rest. checked (eqb n 0) (pos 8) (b - 128 + 128 * n) rest))
-    second l (from n rest e) = third (eqb n 0) (eqb-false n 0)
-      where
-        third : (t : Bool) → (t ≡ false → n ≡ 0 → ⊥) → From (writeGroups (suc more)) (b ∷ bs) (checked t (pos 8) (b - 128 + 128 * n) rest)
-        third true z = not (pos 8)
-        third false z =
-            let some = z refl in
-            let v = b - 128 + 128 * n in
-            let byte : b < 256 = h .each 0 in
-            let low : 128 + v % 128 ≡ b = omega arith in
-            let high : v / 128 ≡ n = omega arith in
-            from v rest (simp (le-ltb v 128 (omega arith), low, high) (ap (λ (l : List ℕ). b ∷ l) e))
-    second l (not n) = not n
-
-    go : (t : Bool) → (t ≡ true → b < 128) → (t ≡ false → 128 ≤ b) → From (writeGroups more) bs (readGroups more bs)
-        → From (writeGroups (suc more)) (b ∷ bs)
-        (cond t (got b bs) (next (readGroups more bs) (λ n rest. checked (eqb n 0) (pos 8) (b - 128 + 128 * n) rest)))
-    go true y m f = from b bs (simp (lt-ltb b 128 (y refl)))
-    go false y m f = second (m refl) f
-
-pub number-back : (n : ℕ) (rest : List ℕ) → n < numberLimit → readNumber (writeNumber n ++ rest) ≡ got n rest
-number-back n rest h = groups-back 1 n rest h
-
-pub number-from : (bs : List ℕ) → Bytes bs → From writeNumber bs (readNumber bs)
-number-from bs h = groups-from 1 bs h
-
--- ---- coordinates
-
-pub unzigzag-zigzag : (z : ℤ) → unzigzag (zigzag z) ≡ z
-unzigzag-zigzag (pos n) =
-    let even : 2 * n % 2 ≡ 0 = omega arith in
-    let half : 2 * n / 2 ≡ n = omega arith in
-    simp (even, half)
-unzigzag-zigzag (negsuc n) =
-    let odd : (2 * n + 1) % 2 ≡ 1 = omega arith in
-    let half : (2 * n + 1) / 2 ≡ n = omega arith in
-    simp (odd, half)
-
-pub zigzag-unzigzag : (n : ℕ) → zigzag (unzigzag n) ≡ n
-zigzag-unzigzag n = go (eqb (n % 2) 0) (eqb-true (n % 2) 0) (eqb-false (n % 2) 0)
-  where
-    go : (t : Bool) → (t ≡ true → n % 2 ≡ 0) → (t ≡ false → n % 2 ≡ 0 → ⊥) → zigzag (cond t (pos (n / 2)) (negsuc (n / 2))) ≡ n
-    go true y m = let even = y refl in omega arith
-    go false y m = let odd = m refl in omega arith
-
-beyond-small : (z : ℤ) → beyond z ≡ false → zigzag z ≤ 2 * reachSize
-beyond-small z e = let f = simp flags at e in zigzag-small z (w-intro (f .0) (f .1) .within)
-
-abbrev pub writeCoordinate : ℤ → List ℕ
-writeCoordinate z = writeNumber (zigzag z)
-
-pub coordinate-back : (z : ℤ) (rest : List ℕ) → beyond z ≡ false → readCoordinate (writeCoordinate z ++ rest) ≡ got z rest
+pub coordinate-back :
+    (start z : ℤ) (rest : List ℕ) → beyond start ≡ false → beyond z ≡ false → readCoordinate start (writeCoordinate start z ++ rest) ≡ got z rest
 unfolding readCoordinate
-coordinate-back z rest e =
-    let small = beyond-small z e in
-    simp (number-back (zigzag z) rest (omega arith), unzigzag-zigzag z, e)
+coordinate-back start z rest h e =
+    let small = stored-small start z h e in
+    let is : start +ℤ unzigzag (zigzag (z -ℤ start)) ≡ z = ap (λ (d : ℤ). start +ℤ d) (unzigzag-zigzag (z -ℤ start)) ∙ there start z in
+    simp (number-back (zigzag (z -ℤ start)) rest (omega arith), is, e)
 
-pub coordinate-from : (bs : List ℕ) → Bytes bs → From writeCoordinate bs (readCoordinate bs)
+pub coordinate-from : (start : ℤ) (bs : List ℕ) → Bytes bs → From (writeCoordinate start) bs (readCoordinate start bs)
 unfolding readCoordinate
-coordinate-from bs h = go (number-from bs h)
+coordinate-from start bs h = go (number-from bs h)
   where
     go : {r : Reading ℕ} → From writeNumber bs r
-        → From writeCoordinate bs (next r (λ n rest. checked (beyond (unzigzag n)) (pos 2) (unzigzag n) rest))
+        → From (writeCoordinate start) bs
+        (next r (λ n rest. checked (beyond (start +ℤ unzigzag n)) (pos 2) (start +ℤ unzigzag n) rest))
     go (not n) = not n
     go (from n rest e) =
-        from-checked (beyond (unzigzag n)) (pos 2) (unzigzag n) rest
-        (e ∙ ap (λ (k : ℕ). writeNumber k ++ rest) (sym (zigzag-unzigzag n)))
+        from-checked (beyond (start +ℤ unzigzag n)) (pos 2) (start +ℤ unzigzag n) rest
+        (e ∙ ap (λ (k : ℕ). writeNumber k ++ rest) (sym (ap zigzag (back start (unzigzag n)) ∙ zigzag-unzigzag n)))
 
 -- ---- points
 
-abbrev pub writeSpot : Vec → List ℕ
-writeSpot p = writePoint (p .x) (p .y)
-
-pub record Near (p : Vec) : Type 0 where
+pub record InReach (p : Vec) : Type 0 where
   pub in-x : beyond (p .x) ≡ false
   pub in-y : beyond (p .y) ≡ false
 
-pub point-back : (p : Vec) (rest : List ℕ) → Near p → readPoint (writeSpot p ++ rest) ≡ got p rest
+pub point-back : (start p : Vec) (rest : List ℕ) → InReach start → InReach p → readPoint start (writePoint start p ++ rest) ≡ got p rest
 unfolding readPoint
-point-back p rest h =
+point-back start p rest k h =
     simp (
-      append-assoc (writeCoordinate (p .x)) (writeCoordinate (p .y)) rest,
-      coordinate-back (p .x) (writeCoordinate (p .y) ++ rest) (h .in-x),
-      coordinate-back (p .y) rest (h .in-y),
+      append-assoc (writeCoordinate (start .x) (p .x)) (writeCoordinate (start .y) (p .y)) rest,
+      coordinate-back (start .x) (p .x) (writeCoordinate (start .y) (p .y) ++ rest) (k .in-x) (h .in-x),
+      coordinate-back (start .y) (p .y) rest (k .in-y) (h .in-y),
     )
 
-pub point-from : (bs : List ℕ) → Bytes bs → From writeSpot bs (readPoint bs)
+pub point-from : (start : Vec) (bs : List ℕ) → Bytes bs → From (writePoint start) bs (readPoint start bs)
 unfolding readPoint
-point-from bs h = go (coordinate-from bs h)
+point-from start bs h = go (coordinate-from (start .x) bs h)
   where
-    second : (x : ℤ) (rest : List ℕ) → bs ≡ writeCoordinate x ++ rest → {r : Reading ℤ} → From writeCoordinate rest r
-        → From writeSpot bs (next r (λ y rest. got (pairOf x y) rest))
+    second : (x : ℤ) (rest : List ℕ) → bs ≡ writeCoordinate (start .x) x ++ rest → {r : Reading ℤ} → From (writeCoordinate (start .y)) rest r
+        → From (writePoint start) bs (next r (λ y rest. got (vec x y) rest))
     second x rest e (not n) = not n
     second x rest e (from y rest′ f) =
-        from (pairOf x y) rest′
-        (e ∙ ap (λ (l : List ℕ). writeCoordinate x ++ l) f ∙ sym (append-assoc (writeCoordinate x) (writeCoordinate y) rest′))
+        from (vec x y) rest′
+        (e
+        ∙ ap (λ (l : List ℕ). writeCoordinate (start .x) x ++ l) f
+        ∙ sym (append-assoc (writeCoordinate (start .x) x) (writeCoordinate (start .y) y) rest′))
 
-    go : {r : Reading ℤ} → From writeCoordinate bs r
-        → From writeSpot bs (next r (λ x rest. next (readCoordinate rest) (λ y rest. got (pairOf x y) rest)))
+    go : {r : Reading ℤ} → From (writeCoordinate (start .x)) bs r
+        → From (writePoint start) bs (next r (λ x rest. next (readCoordinate (start .y) rest) (λ y rest. got (vec x y) rest)))
     go (not n) = not n
-    go (from x rest e) = second x rest e (coordinate-from rest (behind-bytes (writeCoordinate x) e h))
+    go (from x rest e) = second x rest e (coordinate-from (start .y) rest (behind-bytes (writeCoordinate (start .x) x) e h))
+
+-- ---- forms
+
+-- a form in which q's coordinates are counted from within the limits, where p is within them
+pub record Sound (f : Form) : Type 0 where
+  pub near : (z : ℤ) → beyond z ≡ false → beyond (f .origin z) ≡ false
+
+pub plain-sound : Sound plain
+plain-sound = record { near = λ z h. refl }
+
+pub near-nought : InReach nought
+near-nought = record { in-x = refl; in-y = refl }
+
+pub near-origin : {f : Form} → Sound f → {p : Vec} → InReach p → InReach (originOf f p)
+near-origin s {p} h = record { in-x = s .near (p .x) (h .in-x); in-y = s .near (p .y) (h .in-y) }

@@ -6,10 +6,11 @@ use mathlib.Core.List.{List, [], _∷_, map}
 use Prim.Native.Nat.{ℕ}
 use lib.IntN.{pos}
 use Rattle.sheet.specs.Cases.{side}
-use Rattle.store.specs.declared.Place.{Place}
+use Rattle.store.specs.declared.Bookmark.{Bookmark}
 use Rattle.store.specs.declared.Item.{Item}
 use Rattle.store.specs.declared.Item.the-variants.{One, End, Refused}
-use Rattle.store.specs.Stored.{readGroups, readCoordinate, readSide, readPoint, readTo, readPair, readShape, readObject, readObjects, readCount, readDrawing}
+use Rattle.number.specs.Number.{readGroups}
+use Rattle.store.specs.Stored.{readCoordinate, readSide, readPoint, readTo, readPair, readShape, readObject, readObjects, readCount, readDrawing}
 use Rattle.store.specs.Reader.{startPlace, stepFrom, stepOf, callFrom, itemOf, itemSays}
 
 -- what the first four calls give
@@ -20,7 +21,7 @@ fourCalls bytes = map (callFrom bytes startPlace) (0 ∷ 1 ∷ 2 ∷ 3 ∷ [])
 abbrev twoSides : List ℕ
 twoSides = 2 ∷ 4 ∷ 1 ∷ 4 ∷ 2 ∷ []
 
-abbrev afterBoth : Place
+abbrev afterBoth : Bookmark
 afterBoth = record { begun = true; left = 0; at = 5 }
 
 pub record WorkedReader : Type 0 where

@@ -1,15 +1,17 @@
--- Stored numbers, objects and drawings, worked out byte by byte by document 01's rules, with the refusal first met where two or more would
+-- Stored objects and drawings, worked out byte by byte by document 01's rules, with the refusal first met where two or more would
 -- do. A definition that says something else is refused here, whatever the code does.
 use mathlib.Core.Path.{_≡_, refl}
-use mathlib.Core.List.{List, [], _∷_, _++_, map}
+use mathlib.Core.List.{List, [], _∷_, _++_}
 use Prim.Native.Nat.{ℕ}
 use lib.IntN.{ℤ, pos}
 use lib.ListN.{replicate}
+use Rattle.whole.specs.InTurn.{inTurn}
 use Rattle.sheet.specs.Answers.{objectNumbers}
 use Rattle.sheet.specs.Refusal.{sideRefusal, pairRefusal, objectRefusal}
-use Rattle.sheet.specs.Lists.{firstRefusal, listRefusal}
+use Rattle.sheet.specs.Lists.{listRefusal}
 use Rattle.sheet.specs.Cases.{minus, object, segment, ray, side}
-use Rattle.store.specs.Stored.{got, zigzag, unzigzag, writeNumber, writeGroups, writeShape, writeObject, writeObjects, writeDrawing, readNumber, readGroups, readCoordinate, readSide, readPoint, readTo, readPair, readShape, readObject, readObjects, readCount, readDrawing}
+use Rattle.number.specs.Number.{got, writeGroups, readGroups}
+use Rattle.store.specs.Stored.{plain, writeShape, writeObject, writeDrawing, readCoordinate, readSide, readPoint, readTo, readPair, readShape, readObject, readObjects, readCount, readDrawing}
 use Rattle.store.specs.Answers.{readAnswer, readInto, writeAnswer, writeInto}
 
 -- the refusal of some bytes, and that of one object's bytes
@@ -34,23 +36,12 @@ abbrev theirNumbers : List ℤ
 theirNumbers = pos 4 ∷ pos 1 ∷ pos 0 ∷ pos 0 ∷ pos 0 ∷ pos 4 ∷ pos 2 ∷ pos 0 ∷ pos 0 ∷ pos 0 ∷ []
 
 pub record WorkedStored : Type 0 where
-  -- "Every number is in groups of seven bits, low group first, the top bit set in every byte but the number's last, in the fewest groups"
-  one-group : (writeNumber 0 ≡ 0 ∷ []) × (writeNumber 127 ≡ 127 ∷ [])
-  two-groups : (writeNumber 128 ≡ 128 ∷ 1 ∷ []) × (writeNumber 300 ≡ 172 ∷ 2 ∷ []) × (writeNumber 16383 ≡ 255 ∷ 127 ∷ [])
-  groups-read :
-      (readNumber (127 ∷ 5 ∷ []) ≡ got 127 (5 ∷ [])) × (readNumber (128 ∷ 1 ∷ 5 ∷ []) ≡ got 128 (5 ∷ []))
-      × (readNumber (172 ∷ 2 ∷ []) ≡ got 300 []) × (readNumber (255 ∷ 127 ∷ []) ≡ got 16383 [])
-  -- "n of 0 or more is stored as 2n and a negative n as -2n - 1"
-  folded : map zigzag (pos 0 ∷ minus 1 ∷ pos 1 ∷ minus 2 ∷ pos 2 ∷ minus 2000 ∷ pos 2000 ∷ []) ≡ 0 ∷ 1 ∷ 2 ∷ 3 ∷ 4 ∷ 3999 ∷ 4000 ∷ []
-  unfolded :
-      map unzigzag (0 ∷ 1 ∷ 2 ∷ 3 ∷ 4 ∷ 3999 ∷ 4000 ∷ 4001 ∷ 4002 ∷ [])
-      ≡ pos 0 ∷ minus 1 ∷ pos 1 ∷ minus 2 ∷ pos 2 ∷ minus 2000 ∷ pos 2000 ∷ minus 2001 ∷ pos 2001 ∷ []
   -- "First the count. Then each object: kind; for kinds 1 to 3 px, py, qx, qy ..; for kind 4 the plain side number."
   object-bytes :
-      (writeObject (segment (pos 1) (minus 2) (pos 3) (pos 100)) ≡ 1 ∷ 2 ∷ 3 ∷ 6 ∷ 200 ∷ 1 ∷ [])
-      × (writeObject (ray (pos 0) (pos 0) (minus 1) (pos 1)) ≡ 2 ∷ 0 ∷ 0 ∷ 1 ∷ 2 ∷ []) × (writeObject (side (pos 3)) ≡ 4 ∷ 3 ∷ [])
+      (writeObject plain (segment (pos 1) (minus 2) (pos 3) (pos 100)) ≡ 1 ∷ 2 ∷ 3 ∷ 6 ∷ 200 ∷ 1 ∷ [])
+      × (writeObject plain (ray (pos 0) (pos 0) (minus 1) (pos 1)) ≡ 2 ∷ 0 ∷ 0 ∷ 1 ∷ 2 ∷ []) × (writeObject plain (side (pos 3)) ≡ 4 ∷ 3 ∷ [])
   object-read :
-      readObject (1 ∷ 2 ∷ 3 ∷ 6 ∷ 200 ∷ 1 ∷ 9 ∷ []) ≡ got (segment (pos 1) (minus 2) (pos 3) (pos 100)) (9 ∷ [])
+      readObject plain (1 ∷ 2 ∷ 3 ∷ 6 ∷ 200 ∷ 1 ∷ 9 ∷ []) ≡ got (segment (pos 1) (minus 2) (pos 3) (pos 100)) (9 ∷ [])
   count-first : (writeDrawing theirNumbers ≡ twoSides) × (readDrawing twoSides ≡ record { objects = theirNumbers; refusal = pos 0 })
   -- "7: stored bytes end where a number must begin or go on"
   bytes-end : (refusal [] ≡ pos 7) × (refusal (128 ∷ []) ≡ pos 7) × (ofOne [] ≡ pos 7) × (ofOne (4 ∷ []) ≡ pos 7) × (ofOne (1 ∷ 0 ∷ 0 ∷ 0 ∷ []) ≡ pos 7)
@@ -96,13 +87,8 @@ pub record WorkedStored : Type 0 where
       × (writeInto (theirNumbers ++ lent 1) (lentBytes 7) ≡ lentBytes 7)
 
 pub worked-stored : WorkedStored
-unfolding sideRefusal pairRefusal objectRefusal firstRefusal listRefusal writeGroups writeShape writeObject writeObjects writeDrawing readGroups readCoordinate readSide readPoint readTo readPair readShape readObject readObjects readCount readDrawing readAnswer readInto writeAnswer writeInto
+unfolding sideRefusal pairRefusal objectRefusal inTurn listRefusal writeGroups writeShape writeObject writeDrawing readGroups readCoordinate readSide readPoint readTo readPair readShape readObject readObjects readCount readDrawing readAnswer readInto writeAnswer writeInto
 worked-stored = record {
-  one-group = (refl, refl);
-  two-groups = (refl, refl, refl);
-  groups-read = (refl, refl, refl, refl);
-  folded = refl;
-  unfolded = refl;
   object-bytes = (refl, refl, refl);
   object-read = refl;
   count-first = (refl, refl);

@@ -4,21 +4,21 @@ use reading::read_object;
 use reading::read_objects;
 use sheet::Object;
 use sheet::lists::list_refusal;
-use writing::number_size;
-use writing::objects_size;
-use writing::write_number;
-use writing::write_objects;
+use sheet::refusal::BYTES_AFTER;
+use sheet::refusal::NO_ROOM;
+use writing::write_all;
 ghost use mathlib.Core.Path.{_≡_};
 ghost use Prim.Native.Nat.{min};
 ghost use Rattle.store.specs.Stored.{readDrawing};
-ghost use Rattle.store.specs.Reader.{startPlace, stepFrom, stepOf, takenOf, callFrom};
+ghost use Rattle.store.specs.Reader.{startPlace, stepFrom, stepOf, takenOf};
 ghost use Rattle.store.specs.Answers.{readAnswer, readInto, writeAnswer, writeInto};
 
-mod reading; // reading.rt: numbers, objects and counts that bytes begin with
-mod writing; // writing.rt: the bytes of numbers, points and objects
+mod reading; // reading.rt: points, objects and counts that bytes begin with
+mod writing; // writing.rt: the bytes of points and objects
 
-// A group of seven bits holds the numbers below this. It is also the top bit of a byte, which says that another group follows.
-const GROUP: u64 = 128;
+// The largest length of a drawing: the count in two bytes, and each object with its kind in one and four coordinates in two. Lent bytes that
+// are as many have room for every one.
+pub const LONGEST: usize = 2 + Object::MOST * 9;
 
 // What reading a drawing into a lent list answers.
 pub struct Read {
@@ -75,7 +75,7 @@ pub fn read_drawing(bytes: &[u8], out: &mut [i64]) -> Read
     let length = count as usize * Object::WIDTH;
     if out.len() < length {
         return Read {
-            refusal: 10,
+            refusal: NO_ROOM,
             count: 0,
             length,
         };
@@ -97,16 +97,22 @@ pub fn write_drawing(list: &[i64], out: &mut [u8]) -> Written
     if refusal != 0 {
         return Written { refusal, length: 0 };
     }
-    let count = list.len() / Object::WIDTH;
-    let length = number_size(count as u64) + objects_size(count, list);
+    if LONGEST <= out.len() {
+        let written = write_all(list, out);
+        return Written {
+            refusal: 0,
+            length: written,
+        };
+    }
+    let mut nowhere = [0; 0];
+    let length = write_all(list, &mut nowhere);
     if out.len() < length {
         return Written {
-            refusal: 10,
+            refusal: NO_ROOM,
             length,
         };
     }
-    let next = write_number(out, 0, count as u64);
-    write_objects(out, next, count, list);
+    write_all(list, out);
     Written { refusal: 0, length }
 }
 
@@ -118,7 +124,7 @@ pub enum Item {
 }
 
 // Where a reader is: whether the count is read, how many objects are left, and where the next one begins.
-pub struct Place {
+pub struct Bookmark {
     pub begun: bool,
     pub left: u64,
     pub at: usize,
@@ -127,13 +133,13 @@ pub struct Place {
 // An item, and the place after it.
 pub struct Stepped {
     pub item: Item,
-    pub place: Place,
+    pub place: Bookmark,
 }
 
 // A reader holds the lent bytes and its place.
 pub struct Reader<'a> {
     pub bytes: &'a [u8],
-    pub place: Place,
+    pub place: Bookmark,
 }
 
 // An item, and the reader after it.
@@ -151,13 +157,13 @@ fn clamp(at: usize, end: usize) -> usize
     end
 }
 
-fn step_from(bytes: &[u8], place: Place, left: u64, at: usize) -> Stepped
+fn step_from(bytes: &[u8], place: Bookmark, left: u64, at: usize) -> Stepped
     ensures { λ r. ⌜ r ≡ stepFrom (now (bytes .entry)) place left at ⌝ }
 {
     if left == 0 {
         if at < bytes.len() {
             return Stepped {
-                item: Item::Refused(9),
+                item: Item::Refused(BYTES_AFTER),
                 place,
             };
         }
@@ -180,7 +186,7 @@ fn step_from(bytes: &[u8], place: Place, left: u64, at: usize) -> Stepped
     let fewer = left - 1;
     Stepped {
         item: Item::One(object),
-        place: Place {
+        place: Bookmark {
             begun: true,
             left: fewer,
             at: after,
@@ -189,7 +195,7 @@ fn step_from(bytes: &[u8], place: Place, left: u64, at: usize) -> Stepped
 }
 
 // The work of a reader's call: what stands at a place of bytes, and the place after it.
-pub fn step(bytes: &[u8], place: Place) -> Stepped
+pub fn step(bytes: &[u8], place: Bookmark) -> Stepped
     ensures { λ r. ⌜ r ≡ stepOf (now (bytes .entry)) place ⌝ }
 {
     let begun = place.begun;
@@ -208,10 +214,10 @@ pub fn step(bytes: &[u8], place: Place) -> Stepped
 }
 
 // The place before the first call.
-pub fn start() -> Place
+pub fn start() -> Bookmark
     ensures { λ r. ⌜ r ≡ startPlace ⌝ }
 {
-    Place {
+    Bookmark {
         begun: false,
         left: 0,
         at: 0,
@@ -240,12 +246,4 @@ pub fn next<'a>(r: Reader<'a>) -> Taken<'a>
         },
         item: got.item,
     }
-}
-
-// What a reader's first call gives. Its parameter is plain, so that whoever calls it needs to know nothing of readers.
-pub fn first(bytes: &[u8]) -> Item
-    ensures { λ r. ⌜ r ≡ callFrom (now (bytes .entry)) startPlace 0 ⌝ }
-{
-    let taken = next(open_reader(bytes));
-    taken.item
 }

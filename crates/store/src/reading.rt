@@ -1,63 +1,27 @@
-// Reading: the number, the point, the object or the count that bytes begin with, and the objects after the count. Each answer tells
-// how many bytes were taken, or the refusal; the rest of the slice is handed on to the next reading function.
-use crate::GROUP;
+// Reading: the point, the object or the count that bytes begin with, and the objects after the count. Each answer tells how many bytes were
+// taken, or the refusal; the rest of the slice is handed on to the next reading function.
+use number::Number;
+use number::read_number;
 use sheet::Object;
+use sheet::is_beyond;
+use sheet::lent::put_numbers;
+use sheet::refusal::BYTES_AFTER;
+use sheet::refusal::NO_KIND;
+use sheet::refusal::NO_SIDE;
+use sheet::refusal::SAME_POINTS;
+use sheet::refusal::TOO_FAR;
+use sheet::refusal::TOO_MANY;
 ghost use mathlib.Core.Path.{_≡_};
-ghost use Prim.Native.Nat.{_<_, _≤_, _+_, _*_};
+ghost use Prim.Native.Nat.{_<_, _≤_};
+ghost use lib.IntN.{natAbs};
+ghost use lib.Seq.{sets};
+ghost use Rattle.sheet.specs.Figure.{vec};
 ghost use Rattle.sheet.specs.Answers.{objectNumbers};
-ghost use Rattle.sheet.specs.Limits.{most};
-ghost use Rattle.sheet.specs.Lists.{width};
-ghost use Rattle.store.specs.Stored.{numberLimit, pairOf, readNumber, unzigzag, readCoordinate, readPoint, readSide, readTo, readPair, readShape, readObject, readCount, readObjects};
-ghost use Rattle.store.specs.Tells.{Tells, Placed, Filled};
-
-// A stored number and how many bytes it takes, or the number of the refusal.
-pub(crate) struct Number {
-    pub refusal: i64,
-    pub value: u64,
-    pub size: usize,
-}
-
-// The number that the bytes begin with. The only place that knows groups of seven bits, on the way in.
-pub(crate) fn read_number(bytes: &[u8]) -> Number
-    ensures told { λ r. ⌜ Tells (now (bytes .entry)) (readNumber (now (bytes .entry))) (r .refusal) (r .value) (r .size) ⌝ }
-    ensures small { λ r. ⌜ r .value < numberLimit ⌝ }
-{
-    if bytes.len() == 0 {
-        return Number {
-            refusal: 7,
-            value: 0,
-            size: 0,
-        };
-    }
-    let low = bytes[0] as u64;
-    if low < GROUP {
-        return Number {
-            refusal: 0,
-            value: low,
-            size: 1,
-        };
-    }
-    if bytes.len() == 1 {
-        return Number {
-            refusal: 7,
-            value: 0,
-            size: 0,
-        };
-    }
-    let high = bytes[1] as u64;
-    if (high == 0) | (GROUP <= high) {
-        return Number {
-            refusal: 8,
-            value: 0,
-            size: 0,
-        };
-    }
-    Number {
-        refusal: 0,
-        value: low - GROUP + GROUP * high,
-        size: 2,
-    }
-}
+ghost use Rattle.sheet.specs.Lent.{Wrote};
+ghost use Rattle.sheet.specs.Limits.{reachSize, most};
+ghost use Rattle.number.specs.Number.{numberLimit, unzigzag};
+ghost use Rattle.number.specs.ReadAs.{ReadAs};
+ghost use Rattle.store.specs.Stored.{plain, readCoordinate, readPoint, readSide, readTo, readPair, readShape, readObject, readCount, readObjects};
 
 pub(crate) struct Coordinate {
     pub refusal: i64,
@@ -107,8 +71,10 @@ pub(crate) fn coordinate_of(n: u64) -> i64
     -half - 1
 }
 
-pub(crate) fn read_coordinate(bytes: &[u8]) -> Coordinate
-    ensures { λ r. ⌜ Tells (now (bytes .entry)) (readCoordinate (now (bytes .entry))) (r .refusal) (r .value) (r .size) ⌝ }
+// The coordinate that the bytes begin with, counted from a start.
+pub(crate) fn read_coordinate(start: i64, bytes: &[u8]) -> Coordinate
+    requires { ⌜ natAbs start ≤ reachSize ⌝ }
+    ensures { λ r. ⌜ ReadAs (now (bytes .entry)) (readCoordinate start (now (bytes .entry))) (r .refusal) (r .value) (r .size) ⌝ }
 {
     let read = read_number(bytes);
     let no = read.refusal;
@@ -119,10 +85,11 @@ pub(crate) fn read_coordinate(bytes: &[u8]) -> Coordinate
             size: 0,
         };
     }
-    let value = coordinate_of(read.value);
-    if (value < -Object::REACH) | (Object::REACH < value) {
+    let far = coordinate_of(read.value);
+    let value = start + far;
+    if is_beyond(value) {
         return Coordinate {
-            refusal: 2,
+            refusal: TOO_FAR,
             value: 0,
             size: 0,
         };
@@ -134,10 +101,12 @@ pub(crate) fn read_coordinate(bytes: &[u8]) -> Coordinate
     }
 }
 
-pub(crate) fn read_point(bytes: &[u8]) -> Spot
-    ensures { λ r. ⌜ Tells (now (bytes .entry)) (readPoint (now (bytes .entry))) (r .refusal) (pairOf (r .x) (r .y)) (r .size) ⌝ }
+// The point that the bytes begin with, counted from another.
+pub(crate) fn read_point(sx: i64, sy: i64, bytes: &[u8]) -> Spot
+    requires { ⌜ (natAbs sx ≤ reachSize) × (natAbs sy ≤ reachSize) ⌝ }
+    ensures { λ r. ⌜ ReadAs (now (bytes .entry)) (readPoint (vec sx sy) (now (bytes .entry))) (r .refusal) (vec (r .x) (r .y)) (r .size) ⌝ }
 {
-    let x = read_coordinate(bytes);
+    let x = read_coordinate(sx, bytes);
     let no = x.refusal;
     if no != 0 {
         return Spot {
@@ -148,7 +117,7 @@ pub(crate) fn read_point(bytes: &[u8]) -> Spot
         };
     }
     let after = x.size;
-    let y = read_coordinate(&bytes[after..]);
+    let y = read_coordinate(sy, &bytes[after..]);
     Spot {
         refusal: y.refusal,
         x: x.value,
@@ -159,7 +128,7 @@ pub(crate) fn read_point(bytes: &[u8]) -> Spot
 
 // A side of the frame, by its plain number.
 pub(crate) fn read_side(bytes: &[u8]) -> Part
-    ensures { λ r. ⌜ Tells (now (bytes .entry)) (readSide (now (bytes .entry))) (r .refusal) (r .object) (r .size) ⌝ }
+    ensures { λ r. ⌜ ReadAs (now (bytes .entry)) (readSide (now (bytes .entry))) (r .refusal) (r .object) (r .size) ⌝ }
 {
     let read = read_number(bytes);
     let no = read.refusal;
@@ -168,7 +137,7 @@ pub(crate) fn read_side(bytes: &[u8]) -> Part
     }
     let n = read.value;
     if (n < 1) | (4 < n) {
-        return no_part(4);
+        return no_part(NO_SIDE);
     }
     Part {
         refusal: 0,
@@ -186,9 +155,9 @@ pub(crate) fn read_side(bytes: &[u8]) -> Part
 // The object of a kind from p to the point that the bytes begin with.
 pub(crate) fn read_to(kind: u64, px: i64, py: i64, bytes: &[u8]) -> Part
     requires { ⌜ kind < numberLimit ⌝ }
-    ensures { λ r. ⌜ Tells (now (bytes .entry)) (readTo kind (pairOf px py) (now (bytes .entry))) (r .refusal) (r .object) (r .size) ⌝ }
+    ensures { λ r. ⌜ ReadAs (now (bytes .entry)) (readTo plain kind (vec px py) (now (bytes .entry))) (r .refusal) (r .object) (r .size) ⌝ }
 {
-    let q = read_point(bytes);
+    let q = read_point(0, 0, bytes);
     let no = q.refusal;
     if no != 0 {
         return no_part(no);
@@ -196,7 +165,7 @@ pub(crate) fn read_to(kind: u64, px: i64, py: i64, bytes: &[u8]) -> Part
     let qx = q.x;
     let qy = q.y;
     if (px == qx) & (py == qy) {
-        return no_part(3);
+        return no_part(SAME_POINTS);
     }
     Part {
         refusal: 0,
@@ -214,9 +183,9 @@ pub(crate) fn read_to(kind: u64, px: i64, py: i64, bytes: &[u8]) -> Part
 // The object of a kind by its points p and q.
 pub(crate) fn read_pair(kind: u64, bytes: &[u8]) -> Part
     requires { ⌜ kind < numberLimit ⌝ }
-    ensures { λ r. ⌜ Tells (now (bytes .entry)) (readPair kind (now (bytes .entry))) (r .refusal) (r .object) (r .size) ⌝ }
+    ensures { λ r. ⌜ ReadAs (now (bytes .entry)) (readPair plain kind (now (bytes .entry))) (r .refusal) (r .object) (r .size) ⌝ }
 {
-    let p = read_point(bytes);
+    let p = read_point(0, 0, bytes);
     let no = p.refusal;
     if no != 0 {
         return no_part(no);
@@ -233,7 +202,7 @@ pub(crate) fn read_pair(kind: u64, bytes: &[u8]) -> Part
 
 pub(crate) fn read_shape(kind: u64, bytes: &[u8]) -> Part
     requires { ⌜ kind < numberLimit ⌝ }
-    ensures { λ r. ⌜ Tells (now (bytes .entry)) (readShape kind (now (bytes .entry))) (r .refusal) (r .object) (r .size) ⌝ }
+    ensures { λ r. ⌜ ReadAs (now (bytes .entry)) (readShape plain kind (now (bytes .entry))) (r .refusal) (r .object) (r .size) ⌝ }
 {
     if kind == 4 {
         return read_side(bytes);
@@ -243,7 +212,7 @@ pub(crate) fn read_shape(kind: u64, bytes: &[u8]) -> Part
 
 // The object that the bytes begin with.
 pub(crate) fn read_object(bytes: &[u8]) -> Part
-    ensures { λ r. ⌜ Tells (now (bytes .entry)) (readObject (now (bytes .entry))) (r .refusal) (r .object) (r .size) ⌝ }
+    ensures { λ r. ⌜ ReadAs (now (bytes .entry)) (readObject plain (now (bytes .entry))) (r .refusal) (r .object) (r .size) ⌝ }
 {
     let read = read_number(bytes);
     let no = read.refusal;
@@ -252,7 +221,7 @@ pub(crate) fn read_object(bytes: &[u8]) -> Part
     }
     let kind = read.value;
     if (kind < 1) | (4 < kind) {
-        return no_part(1);
+        return no_part(NO_KIND);
     }
     let after = read.size;
     let part = read_shape(kind, &bytes[after..]);
@@ -266,7 +235,7 @@ pub(crate) fn read_object(bytes: &[u8]) -> Part
 
 // The count that a drawing begins with.
 pub(crate) fn read_count(bytes: &[u8]) -> Number
-    ensures told { λ r. ⌜ Tells (now (bytes .entry)) (readCount (now (bytes .entry))) (r .refusal) (r .value) (r .size) ⌝ }
+    ensures told { λ r. ⌜ ReadAs (now (bytes .entry)) (readCount (now (bytes .entry))) (r .refusal) (r .value) (r .size) ⌝ }
     ensures small { λ r. ⌜ r .value ≤ most ⌝ }
 {
     let read = read_number(bytes);
@@ -281,7 +250,7 @@ pub(crate) fn read_count(bytes: &[u8]) -> Number
     let count = read.value;
     if (Object::MOST as u64) < count {
         return Number {
-            refusal: 11,
+            refusal: TOO_MANY,
             value: 0,
             size: 0,
         };
@@ -293,32 +262,23 @@ pub(crate) fn read_count(bytes: &[u8]) -> Number
     }
 }
 
-// An object's five numbers, at a place of a list that has room for them there.
-pub(crate) fn put_object(out: &mut [i64], at: usize, o: Object)
-    requires { ⌜ at + width ≤ most * width ⌝ }
-    ensures { λ _. ⌜ Placed at (objectNumbers o) (now (out .entry)) (now (out .exit)) ⌝ }
+// An object's five numbers, at a place of a list as far as it has cells.
+pub(crate) fn put_object(o: Object, out: &mut [i64], at: usize) -> usize
+    ensures { λ r. ⌜ Wrote (now (out .entry)) (now (out .exit)) at r (objectNumbers o) ⌝ }
 {
-    if out.len() < at + Object::WIDTH {
-        return;
-    }
     let kind = o.kind;
     let px = o.px;
     let py = o.py;
     let qx = o.qx;
     let qy = o.qy;
-    out[at] = kind;
-    out[at + 1] = px;
-    out[at + 2] = py;
-    out[at + 3] = qx;
-    out[at + 4] = qy;
+    put_numbers(&[kind, px, py, qx, qy], out, at)
 }
 
-// The refusal of bytes that are to hold count objects and nothing more; 0 for none, and the objects at the front of a list that has room.
-// A list without room makes it a check alone: one loop for both, so that an object is read in one place.
+// The refusal of bytes that are to hold count objects and nothing more; 0 for none. The objects, or those before the refusal, are put at the
+// front of a list as far as it has cells: one loop for the check alone and for reading, so that an object is read in one place.
 pub(crate) fn read_objects(count: u64, bytes: &[u8], out: &mut [i64]) -> i64
-    requires { ⌜ count ≤ most ⌝ }
-    ensures refusal { λ r. ⌜ r ≡ readObjects count (now (bytes .entry)) .refusal ⌝ }
-    ensures cells { λ r. ⌜ Filled (readObjects count (now (bytes .entry))) (count * width) (now (out .entry)) (now (out .exit)) ⌝ }
+    ensures refusal { λ r. ⌜ r ≡ readObjects plain count (now (bytes .entry)) .refusal ⌝ }
+    ensures cells { λ r. ⌜ now (out .exit) ≡ sets (now (out .entry)) 0 (readObjects plain count (now (bytes .entry)) .objects) ⌝ }
 {
     let mut left = count;
     let mut at = 0;
@@ -330,13 +290,12 @@ pub(crate) fn read_objects(count: u64, bytes: &[u8], out: &mut [i64]) -> i64
             return no;
         }
         let object = part.object;
-        put_object(out, to, object);
+        to = put_object(object, out, to);
         at += part.size;
-        to += Object::WIDTH;
         left -= 1;
     }
     if at < bytes.len() {
-        return 9;
+        return BYTES_AFTER;
     }
     0
 }

@@ -1,46 +1,23 @@
-// Writing: the bytes of a number, of a point and of an object, put at a place of a list, and how many they are.
-use crate::GROUP;
+// Writing: the bytes of a point, of an object and of a list's objects, put at a place of lent bytes as far as there are cells. Each function
+// gives the place behind, whether or not there is room: put into no bytes they are a count of them, so that an object is written in one place.
+use number::put_number;
 use sheet::Object;
+use sheet::lists::object_at;
 ghost use mathlib.Core.Path.{_≡_};
-ghost use mathlib.Core.List.{_++_};
-ghost use Prim.Native.Nat.{_<_, _≤_, _+_};
+ghost use Prim.Native.Nat.{_+_, _≤_};
 ghost use lib.IntN.{natAbs};
-ghost use lib.ListN.{length};
-ghost use lib.Seq.{sets};
+ghost use Rattle.sheet.specs.Figure.{vec};
 ghost use Rattle.sheet.specs.Limits.{reachSize};
 ghost use Rattle.sheet.specs.Lent.{Wrote};
-ghost use Rattle.sheet.specs.Lists.{width, countOf, objectFrom};
+ghost use Rattle.sheet.specs.Lists.{countOf};
 ghost use Rattle.sheet.specs.ListsLaws.{Listable};
-ghost use Rattle.store.specs.Stored.{numberLimit, writeNumber, zigzag, writePoint, writeShape, writeObject, writeObjects};
-ghost use Rattle.store.specs.Bounded.{Small, Bounded};
+ghost use Rattle.number.specs.Number.{zigzag};
+ghost use Rattle.store.specs.Stored.{plain, writeCoordinate, writePoint, writePair, writeShape, writeObject, writeObjects, writeDrawing};
+ghost use Rattle.store.specs.Bounded.{Reachable, Bounded};
 
-// The object that stands at a place of a list.
-pub(crate) fn object_at(list: &[i64], at: usize) -> Object
-    requires { ⌜ at + width ≤ length (now list) ⌝ }
-    ensures { λ r. ⌜ r ≡ objectFrom (now (list .entry)) at ⌝ }
-{
-    Object {
-        kind: list[at],
-        px: list[at + 1],
-        py: list[at + 2],
-        qx: list[at + 3],
-        qy: list[at + 4],
-    }
-}
-
-// How many bytes a stored number takes.
-pub(crate) fn number_size(n: u64) -> usize
-    ensures { λ r. ⌜ r ≡ length (writeNumber n) ⌝ }
-{
-    if n < GROUP {
-        return 1;
-    }
-    2
-}
-
-// What is stored for a coordinate.
+// What is stored for a signed number.
 pub(crate) fn stored(z: i64) -> u64
-    requires { ⌜ natAbs z ≤ reachSize ⌝ }
+    requires { ⌜ natAbs z ≤ reachSize + reachSize ⌝ }
     ensures { λ r. ⌜ r ≡ zigzag z ⌝ }
 {
     let size = whole::size(z);
@@ -50,88 +27,56 @@ pub(crate) fn stored(z: i64) -> u64
     2 * size
 }
 
-pub(crate) fn point_size(x: i64, y: i64) -> usize
-    requires { ⌜ (natAbs x ≤ reachSize) × (natAbs y ≤ reachSize) ⌝ }
-    ensures { λ r. ⌜ r ≡ length (writePoint x y) ⌝ }
+// A coordinate, counted from a start.
+pub(crate) fn write_coordinate(start: i64, z: i64, out: &mut [u8], at: usize) -> usize
+    requires { ⌜ (natAbs start ≤ reachSize) × (natAbs z ≤ reachSize) ⌝ }
+    ensures { λ r. ⌜ Wrote (now (out .entry)) (now (out .exit)) at r (writeCoordinate start z) ⌝ }
 {
-    number_size(stored(x)) + number_size(stored(y))
+    let far = z - start;
+    let n = stored(far);
+    put_number(n, out, at)
 }
 
-pub(crate) fn shape_size(kind: i64, px: i64, py: i64, qx: i64, qy: i64) -> usize
-    requires { ⌜ Small px py qx qy ⌝ }
-    ensures { λ r. ⌜ r ≡ length (writeShape kind px py qx qy) ⌝ }
+// A point, counted from another.
+pub(crate) fn write_point(sx: i64, sy: i64, x: i64, y: i64, out: &mut [u8], at: usize) -> usize
+    requires { ⌜ Reachable sx sy x y ⌝ }
+    ensures { λ r. ⌜ Wrote (now (out .entry)) (now (out .exit)) at r (writePoint (vec sx sy) (vec x y)) ⌝ }
 {
-    if kind == Object::SIDE {
-        return number_size(whole::size(px));
-    }
-    point_size(px, py) + point_size(qx, qy)
+    let next = write_coordinate(sx, x, out, at);
+    write_coordinate(sy, y, out, next)
 }
 
-// How many bytes an object takes.
-pub(crate) fn object_size(o: Object) -> usize
-    requires { ⌜ Bounded o ⌝ }
-    ensures { λ r. ⌜ r ≡ length (writeObject o) ⌝ }
+pub(crate) fn write_pair(px: i64, py: i64, qx: i64, qy: i64, out: &mut [u8], at: usize) -> usize
+    requires { ⌜ Reachable px py qx qy ⌝ }
+    ensures { λ r. ⌜ Wrote (now (out .entry)) (now (out .exit)) at r (writePair plain (vec px py) (vec qx qy)) ⌝ }
 {
-    number_size(whole::size(o.kind)) + shape_size(o.kind, o.px, o.py, o.qx, o.qy)
-}
-
-// Puts a number at a place, and gives the place behind it. The only place that knows groups of seven bits, on the way out.
-pub(crate) fn write_number(out: &mut [u8], at: usize, n: u64) -> usize
-    requires { ⌜ (n < numberLimit) × (at + length (writeNumber n) ≤ length (now out)) ⌝ }
-    ensures { λ r. ⌜ Wrote (now (out .entry)) (now (out .exit)) at r (writeNumber n) ⌝ }
-{
-    if n < GROUP {
-        out[at] = n as u8;
-        return at + 1;
-    }
-    let low = GROUP + n % GROUP;
-    let high = n / GROUP;
-    out[at] = low as u8;
-    out[at + 1] = high as u8;
-    at + 2
-}
-
-pub(crate) fn write_point(out: &mut [u8], at: usize, x: i64, y: i64) -> usize
-    requires { ⌜ (natAbs x ≤ reachSize) × (natAbs y ≤ reachSize) × (at + length (writePoint x y) ≤ length (now out)) ⌝ }
-    ensures { λ r. ⌜ Wrote (now (out .entry)) (now (out .exit)) at r (writePoint x y) ⌝ }
-{
-    let first = stored(x);
-    let second = stored(y);
-    let next = write_number(out, at, first);
-    write_number(out, next, second)
-}
-
-pub(crate) fn write_pair(out: &mut [u8], at: usize, px: i64, py: i64, qx: i64, qy: i64) -> usize
-    requires { ⌜ Small px py qx qy × (at + length (writePoint px py ++ writePoint qx qy) ≤ length (now out)) ⌝ }
-    ensures { λ r. ⌜ Wrote (now (out .entry)) (now (out .exit)) at r (writePoint px py ++ writePoint qx qy) ⌝ }
-{
-    let next = write_point(out, at, px, py);
-    write_point(out, next, qx, qy)
+    let next = write_point(0, 0, px, py, out, at);
+    write_point(0, 0, qx, qy, out, next)
 }
 
 pub(crate) fn write_shape(
-    out: &mut [u8],
-    at: usize,
     kind: i64,
     px: i64,
     py: i64,
     qx: i64,
     qy: i64,
+    out: &mut [u8],
+    at: usize,
 ) -> usize
-    requires { ⌜ Small px py qx qy × (at + length (writeShape kind px py qx qy) ≤ length (now out)) ⌝ }
-    ensures { λ r. ⌜ Wrote (now (out .entry)) (now (out .exit)) at r (writeShape kind px py qx qy) ⌝ }
+    requires { ⌜ Reachable px py qx qy ⌝ }
+    ensures { λ r. ⌜ Wrote (now (out .entry)) (now (out .exit)) at r (writeShape plain kind px py qx qy) ⌝ }
 {
     if kind == Object::SIDE {
         let n = whole::size(px);
-        return write_number(out, at, n);
+        return put_number(n, out, at);
     }
-    write_pair(out, at, px, py, qx, qy)
+    write_pair(px, py, qx, qy, out, at)
 }
 
 // Puts an object at a place, and gives the place behind it.
-pub(crate) fn write_object(out: &mut [u8], at: usize, o: Object) -> usize
-    requires { ⌜ Bounded o × (at + length (writeObject o) ≤ length (now out)) ⌝ }
-    ensures { λ r. ⌜ Wrote (now (out .entry)) (now (out .exit)) at r (writeObject o) ⌝ }
+pub(crate) fn write_object(o: Object, out: &mut [u8], at: usize) -> usize
+    requires { ⌜ Bounded o ⌝ }
+    ensures { λ r. ⌜ Wrote (now (out .entry)) (now (out .exit)) at r (writeObject plain o) ⌝ }
 {
     let kind = o.kind;
     let px = o.px;
@@ -139,39 +84,31 @@ pub(crate) fn write_object(out: &mut [u8], at: usize, o: Object) -> usize
     let qx = o.qx;
     let qy = o.qy;
     let n = whole::size(kind);
-    let next = write_number(out, at, n);
-    write_shape(out, next, kind, px, py, qx, qy)
+    let next = put_number(n, out, at);
+    write_shape(kind, px, py, qx, qy, out, next)
 }
 
-// How many bytes the objects of an accepted list take.
-pub(crate) fn objects_size(count: usize, list: &[i64]) -> usize
-    requires { ⌜ Listable (now list) × (count ≡ countOf (now list)) ⌝ }
-    ensures { λ r. ⌜ r ≡ length (writeObjects count (now (list .entry))) ⌝ }
+// Puts the objects of an accepted list at a place, each behind the one before, and gives the place behind them.
+pub(crate) fn write_objects(list: &[i64], count: usize, out: &mut [u8], at: usize) -> usize
+    requires { ⌜ Listable (now list) × (count ≤ countOf (now list)) ⌝ }
+    ensures { λ r. ⌜ Wrote (now (out .entry)) (now (out .exit)) at r (writeObjects plain count (now (list .entry))) ⌝ }
 {
-    let mut left = count;
-    let mut at = 0;
-    let mut size = 0;
-    while 0 < left {
-        size += object_size(object_at(list, at));
-        at += Object::WIDTH;
-        left -= 1;
+    let mut to = at;
+    let mut i = 0;
+    while i < count {
+        let object = object_at(list, i);
+        to = write_object(object, out, to);
+        i += 1;
     }
-    size
+    to
 }
 
-// Puts the objects of an accepted list at a place, each behind the one before.
-pub(crate) fn write_objects(out: &mut [u8], from: usize, count: usize, list: &[i64])
-    requires { ⌜ Listable (now list) × (count ≡ countOf (now list)) ⌝ }
-    requires { ⌜ from + length (writeObjects count (now list)) ≤ length (now out) ⌝ }
-    ensures { λ _. ⌜ now (out .exit) ≡ sets (now (out .entry)) from (writeObjects count (now (list .entry))) ⌝ }
+// Puts the drawing of an accepted list at the front, and gives its length.
+pub(crate) fn write_all(list: &[i64], out: &mut [u8]) -> usize
+    requires { ⌜ Listable (now list) ⌝ }
+    ensures { λ r. ⌜ Wrote (now (out .entry)) (now (out .exit)) 0 r (writeDrawing (now (list .entry))) ⌝ }
 {
-    let mut to = from;
-    let mut left = count;
-    let mut at = 0;
-    while 0 < left {
-        let object = object_at(list, at);
-        to = write_object(out, to, object);
-        at += Object::WIDTH;
-        left -= 1;
-    }
+    let count = list.len() / Object::WIDTH;
+    let next = put_number(count as u64, out, 0);
+    write_objects(list, count, out, next)
 }

@@ -9,7 +9,8 @@ use Rattle.sheet.specs.declared.Object.{Object}
 use Rattle.sheet.specs.declared.Point.{Point}
 use Rattle.sheet.specs.Refusal.{beyond}
 use Rattle.sheet.specs.Points.{given}
-use Rattle.sheet.specs.Signs.{orElse, sideSign}
+use Rattle.sheet.specs.Signs.{sideSign}
+use Rattle.whole.specs.Choice.{orElse}
 use Rattle.sheet.specs.Lists.{objectAt}
 use Rattle.sheet.specs.Lists as lists
 use Rattle.store.specs.Stored.{Drawing, readDrawing}

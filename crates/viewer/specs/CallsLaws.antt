@@ -18,7 +18,8 @@ use lib.Dec.{leb, ltb}
 use lib.IntN.{ℤ, pos, negsuc, natAbs, _+ℤ_}
 use lib.ListN.{length}
 use lib.Signed.{ltZ, leZ}
-use Rattle.whole.specs.Bound.{Within, w-intro, w-is}
+use Rattle.whole.specs.Within.{Within}
+use Rattle.whole.specs.Bound.{w-intro, w-is}
 use Rattle.whole.specs.Tests.{eq-eqZ, ne-eqZ}
 use Rattle.sheet.specs.declared.Object.{Object}
 use Rattle.sheet.specs.Limits.{most}
@@ -30,10 +31,10 @@ use Rattle.sheet.specs.ListsLaws.{Listable}
 use Rattle.sheet.specs.Flags.{both, neither, either, flags}
 use Rattle.sheet.specs.RefusalTable.{OneOf}
 use Rattle.sheet.specs.RefusalTableLaws.{split}
-use Rattle.sheet.specs.RefusalLaws.{Small}
+use Rattle.sheet.specs.RefusalLaws.{WithinBoth}
 use Rattle.sheet.specs.PointsLaws.{point-is}
 use Rattle.sheet.specs.EndsLaws.{given-fine}
-use Rattle.store.specs.declared.Place.{Place}
+use Rattle.store.specs.declared.Bookmark.{Bookmark}
 use Rattle.store.specs.declared.Item.the-variants.{One, End}
 use Rattle.store.specs.Stored.{Drawing, readDrawing}
 use Rattle.store.specs.Reader.{stepOf, callFrom, endOf, itemOf}
@@ -41,7 +42,7 @@ use Rattle.store.specs.Refusals.{ofBytes}
 use Rattle.viewer.specs.Calls.{object, whole, indexRefusal, placeRefusal, signOr, sideIn}
 use Rattle.viewer.specs.ReadingLaws.{bytes-refusal}
 
-pub call-more : (bs : List ℕ) (p : Place) (k : ℕ) → 0 < k → callFrom bs p k ≡ callFrom bs (stepOf bs p .place) (k - 1)
+pub call-more : (bs : List ℕ) (p : Bookmark) (k : ℕ) → 0 < k → callFrom bs p k ≡ callFrom bs (stepOf bs p .place) (k - 1)
 unfolding callFrom
 call-more bs p zero h = absurd (omega arith)
 call-more bs p (suc k) h = let e : k ≡ suc k - 1 = omega arith in ap (callFrom bs (stepOf bs p .place)) e
@@ -66,7 +67,7 @@ module _ (x y : ℤ) where
     unfolding pointRefusal
     place-point =
         let f = simp flags at e in
-        let s : Small 2000 (record { x = x; y = y }) = record { in-x = w-intro (f .0 .0) (f .0 .1); in-y = w-intro (f .1 .0) (f .1 .1) } in
+        let s : WithinBoth 2000 (record { x = x; y = y }) = record { in-x = w-intro (f .0 .0) (f .0 .1); in-y = w-intro (f .1 .0) (f .1 .1) } in
         simp (point-is (whole x y) .1 (given-fine s .point))
 
     -- the kernel refuses neither the object nor the point

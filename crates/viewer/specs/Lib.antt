@@ -1,6 +1,9 @@
+-- what is to be believed
 pub mod Calls
-pub mod Answered
+pub mod SideIs
+-- worked on them
+pub mod Worked
+-- laws
 pub mod ReadingLaws
 pub mod CallsLaws
-pub mod AnsweredLaws
-pub mod Worked
+pub mod SideIsLaws

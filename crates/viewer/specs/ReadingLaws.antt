@@ -23,7 +23,8 @@ use Rattle.sheet.specs.Lists.{width, objectAt}
 use Rattle.sheet.specs.ListsLaws.{Listable, object-next}
 use Rattle.store.specs.declared.Item.{Item}
 use Rattle.store.specs.declared.Item.the-variants.{One, End, Refused}
-use Rattle.store.specs.Stored.{Reading, Drawing, before, andThen, counted}
+use Rattle.store.specs.Stored.{Drawing, plain, before, andThen, counted}
+use Rattle.number.specs.Number.{Reading}
 use Rattle.store.specs.Stored.{readObjects, readDrawing}
 use Rattle.store.specs.Reader.{itemOf}
 use Rattle.store.specs.ObjectsLaws.{objects-length}
@@ -46,21 +47,21 @@ sound-before o d p s = record { of = s .of; each = each }
     each zero h = p
     each (suc k) h = subst Accepted (object-next (objectNumbers o ++ d .objects) k) (s .each k (omega arith))
 
-sound-objects : (n : ℕ) (bs : List ℕ) → Sound (readObjects n bs)
+sound-objects : (n : ℕ) (bs : List ℕ) → Sound (readObjects plain n bs)
 unfolding readObjects
 sound-objects zero [] = sound-none (one-of 0 refl)
 sound-objects zero (b ∷ bs) = sound-none (one-of 9 refl)
-sound-objects (suc n) bs = go (sure-object bs) (sound-objects n)
+sound-objects (suc n) bs = go (sure-object plain bs) (sound-objects n)
   where
-    go : {r : Reading Object} → Sure Accepted bs r → ((rest : List ℕ) → Sound (readObjects n rest)) → Sound (andThen r (λ rest. readObjects n rest))
-    go (sure.read o front rest f e) h = sound-before o (readObjects n rest) e (h rest)
+    go : {r : Reading Object} → Sure Accepted bs r → ((rest : List ℕ) → Sound (readObjects plain n rest)) → Sound (andThen r (λ rest. readObjects plain n rest))
+    go (sure.read o front rest f e) h = sound-before o (readObjects plain n rest) e (h rest)
     go (sure.refused n e) h = sound-none (one-more (one-of n e))
 
 sound : (bs : List ℕ) → Sound (readDrawing bs)
 unfolding readDrawing
 sound bs = go (sure-count bs)
   where
-    go : {r : Reading ℕ} → Sure (λ n. n ≤ most) bs r → Sound (counted r)
+    go : {r : Reading ℕ} → Sure (λ n. n ≤ most) bs r → Sound (counted plain r)
     go (sure.read n front rest f e) = sound-objects n rest
     go (sure.refused n e) = sound-none (one-more (one-of n e))
 
@@ -85,8 +86,8 @@ pub good : (bs : List ℕ) → readDrawing bs .refusal ≡ pos 0 → Listable (r
 unfolding readDrawing
 good bs e = go (sure-count bs) e
   where
-    go : {r : Reading ℕ} → Sure (λ n. n ≤ most) bs r → counted r .refusal ≡ pos 0 → Listable (counted r .objects)
+    go : {r : Reading ℕ} → Sure (λ n. n ≤ most) bs r → counted plain r .refusal ≡ pos 0 → Listable (counted plain r .objects)
     go (sure.read n front rest f h) e =
-        let l = objects-length n rest e in
+        let l = objects-length plain n rest e in
         record { whole = omega arith; few = omega arith; each = λ k b. sound-objects n rest .each k (omega arith) }
     go (sure.refused n h) e = absurd (eqZ-false (not-nought n h) e)

@@ -2,9 +2,12 @@
 use sheet::Object;
 use sheet::Point;
 use sheet::Signed;
+use sheet::is_beyond;
+use sheet::refusal::NO_OBJECT;
+use sheet::refusal::TOO_FAR;
 use store::Item;
 ghost use mathlib.Core.Path.{_≡_};
-ghost use Rattle.sheet.specs.Refusal.{beyond, Accepted};
+ghost use Rattle.sheet.specs.Refusal.{Accepted};
 ghost use Rattle.store.specs.Stored.{readDrawing};
 ghost use Rattle.store.specs.Reader.{itemOf};
 ghost use Rattle.viewer.specs.Calls.{checkAnswer, sideAnswer};
@@ -36,31 +39,15 @@ fn item_at(bytes: &[u8], i: usize) -> Item
     last.item
 }
 
-// Beyond the object type's own limit.
-fn is_beyond(z: i64) -> bool
-    ensures { λ r. ⌜ r ≡ beyond z ⌝ }
-{
-    (z < -Object::REACH) | (Object::REACH < z)
-}
-
 // Of an accepted object, for the point x, y. The kernel then refuses nothing, and its second case is never met.
 fn side_for(o: Object, x: i64, y: i64) -> i64
     requires { ⌜ Accepted o ⌝ }
     ensures { λ r. ⌜ r ≡ sideFor o x y ⌝ }
 {
     if is_beyond(x) | is_beyond(y) {
-        return REFUSED + 2;
+        return REFUSED + TOO_FAR;
     }
-    let signed = kernel::signs::side_of(
-        o,
-        Point {
-            mx: 0,
-            nx: x,
-            my: 0,
-            ny: y,
-            w: 1,
-        },
-    );
+    let signed = kernel::signs::side_of(o, Point::given(x, y));
     match signed {
         Signed::Sign(sign) => sign,
         Signed::Refused(no) => REFUSED + no,
@@ -77,11 +64,11 @@ pub extern "C" fn silvanelga_side(bytes: &[u8], i: i64, x: i64, y: i64) -> i64
         return REFUSED + refusal;
     }
     if (i < 0) | (Object::MOST as i64 <= i) {
-        return REFUSED + 13;
+        return REFUSED + NO_OBJECT;
     }
     let item = item_at(bytes, i as usize);
     let Item::One(o) = item else {
-        return REFUSED + 13;
+        return REFUSED + NO_OBJECT;
     };
     side_for(o, x, y)
 }

@@ -1,4 +1,4 @@
--- `Within n z`: z is at most n away from 0. To cite:
+-- The laws of `Within n z`. To cite:
 --   w-add, w-sub, w-neg, w-mul, w-pos, w-negsuc, w-sgn, w-quot, w-size   the operations
 --   w-self, w-weak, w-lit, w-is   its own size; a larger bound; between literals; in other words
 --   w-upper, w-lower, w-intro   as two orders
@@ -17,9 +17,7 @@ use mir.Syntax.{w64}
 use mir.Val.{SFits}
 use Rattle.whole.specs.Order.{le-intro, ≤-trans, ≤-neg}
 use Rattle.whole.specs.Sign.{sgn}
-
-pub record Within (n : ℕ) (z : ℤ) : Type 0 where
-  pub within : natAbs z ≤ n
+use Rattle.whole.specs.Within.{Within}
 
 pub natAbs-neg : (z : ℤ) → natAbs (negℤ z) ≡ natAbs z
 natAbs-neg (pos zero) = refl

@@ -19,7 +19,8 @@ use lib.Signed.{ltZ}
 use mir.Syntax.{w64}
 use mir.Val.{SFits, ofZ}
 use Rattle.whole.specs.Ring.{Expr, var, con, lit, _⊕_, _⊖_, _⊗_, ⊝_, at, ev}
-use Rattle.whole.specs.Bound.{Within, fits64, w-self, w-is, w-add, w-sub, w-neg, w-mul, w-pos}
+use Rattle.whole.specs.Within.{Within}
+use Rattle.whole.specs.Bound.{fits64, w-self, w-is, w-add, w-sub, w-neg, w-mul, w-pos}
 use Rattle.whole.specs.Tests.{out, out-is, eq-taken, eq-left}
 
 -- a bound for each number: data, so that the two lists are inferred from it

@@ -21,9 +21,11 @@ use Rattle.whole.specs.Reify.{reify, reading, solve, val-pos}
 use Rattle.whole.specs.Order.{lt-cert, lt-intro, lt-pp, le-nn, pp-add, pp-mul, pp-nn}
 use Rattle.whole.specs.Sign.{sgn}
 use Rattle.whole.specs.SignLaws.{sgn-pos, sgn-neg-eq, sgn-zero, zero-of-sgn, Signs, signs, minus, nought, plus, neg-pp, nn-size, size-above}
-use Rattle.whole.specs.Bound.{Within, w-lower, w-neg, w-weak, natAbs-neg}
-use Rattle.whole.specs.Poly.{Poly, value, first, leading}
-use Rattle.whole.specs.PolyLaws.{first-ne, first-zero}
+use Rattle.whole.specs.Within.{Within}
+use Rattle.whole.specs.Bound.{w-lower, w-neg, w-weak, natAbs-neg}
+use Rattle.whole.specs.Poly.{Poly, value, leading}
+use Rattle.whole.specs.Choice.{orElse}
+use Rattle.whole.specs.ChoiceLaws.{or-ne, or-zero}
 
 -- |c| is at most n, and n is below R
 pub record Small (R c : ℤ) : Type 0 where
@@ -64,20 +66,20 @@ outweighs t S z k n w l = go (signs t)
         ∙ ap negℤ (sgn-pos (positive (negℤ t) S (negℤ z) k (neg-pp h) (subst (λ (m : ℕ). Within (m * k) (negℤ z)) (sym (natAbs-neg t)) (w-neg w)) l))
         ∙ sym e
 
-pub lead-step : (b c R : ℤ) → Small R c → sgn (b *ℤ R +ℤ c) ≡ first (sgn b) (sgn c)
+pub lead-step : (b c R : ℤ) → Small R c → sgn (b *ℤ R +ℤ c) ≡ orElse (sgn b) (sgn c)
 lead-step b c R s = go (ℤ-discrete b (pos 0))
   where
     -- b is 1 or more in size
     more : (k : ℕ) → 0 < k → s .size ≤ k * s .size
     more k h = let l : 1 * s .size ≤ k * s .size = mul-le-mul-right (s .size) h in omega arith
 
-    go : Dec (b ≡ pos 0) → sgn (b *ℤ R +ℤ c) ≡ first (sgn b) (sgn c)
+    go : Dec (b ≡ pos 0) → sgn (b *ℤ R +ℤ c) ≡ orElse (sgn b) (sgn c)
     go (yes z) =
         ap sgn (ap (λ (x : ℤ). x *ℤ R +ℤ c) z ∙ ap (λ (x : ℤ). x +ℤ c) (zero-*ℤ R) ∙ +ℤ-idl c)
-        ∙ ap (λ (x : ℤ). first x (sgn c)) (sym (ap sgn z ∙ sgn-zero))
+        ∙ ap (λ (x : ℤ). orElse x (sgn c)) (sym (ap sgn z ∙ sgn-zero))
     go (no n) =
         outweighs b R c (s .size) n (w-weak (s .within) (more (natAbs b) (ltb→lt 0 (natAbs b) (size-above n .lt)))) (s .below)
-        ∙ sym (first-ne b (sgn c) n)
+        ∙ sym (or-ne b (sgn c) n)
 
 -- ---- the law
 
@@ -86,17 +88,17 @@ lead R none = sgn-zero
 lead R (highest {a}) =
     ap sgn (ap (λ (x : ℤ). x +ℤ a) (zero-*ℤ R) ∙ +ℤ-idl a)
 lead R (_under_ {c} {b} {p} s l) =
-    lead-step (value (b ∷ p) R) c R s ∙ ap (λ (x : ℤ). first x (sgn c)) (lead R l)
+    lead-step (value (b ∷ p) R) c R s ∙ ap (λ (x : ℤ). orElse x (sgn c)) (lead R l)
 
 pub lead-two : {m n : ℕ} (a b c R : ℤ) → Within m b → Within n c → pos m <ℤ R → pos n <ℤ R
-    → sgn (value (c ∷ b ∷ a ∷ []) R) ≡ first (first (sgn a) (sgn b)) (sgn c)
+    → sgn (value (c ∷ b ∷ a ∷ []) R) ≡ orElse (orElse (sgn a) (sgn b)) (sgn c)
 lead-two a b c R hb hc mR nR = lead R (small hc nR under small hb mR under highest)
 
 -- ---- u R + v = 0
 
 pub two-zero : (u v R : ℤ) → Small R v → u *ℤ R +ℤ v ≡ pos 0 → (u ≡ pos 0) × (v ≡ pos 0)
 two-zero u v R s e =
-    let z = first-zero (sgn u) (sgn v) (sym (lead-step u v R s) ∙ ap sgn e ∙ sgn-zero) in
+    let z = or-zero (sgn u) (sgn v) (sym (lead-step u v R s) ∙ ap sgn e ∙ sgn-zero) in
     (zero-of-sgn (z .0), zero-of-sgn (z .1))
 
 -- ---- the sign at every R from some on

@@ -1,8 +1,8 @@
 -- Polynomials in R, as lists of coefficients, the lowest first: (c ∷ b ∷ a ∷ []) is a R R + b R + c.
 use mathlib.Core.List.{List, [], _∷_}
-use Prim.Native.Nat.{zero, suc}
-use lib.IntN.{ℤ, pos, negsuc, negℤ, _+ℤ_, _*ℤ_}
+use lib.IntN.{ℤ, pos, negℤ, _+ℤ_, _*ℤ_}
 use Rattle.whole.specs.Sign.{sgn}
+use Rattle.whole.specs.Choice.{orElse}
 
 abbrev pub Poly : Type 0
 Poly = List ℤ
@@ -35,13 +35,7 @@ abbrev pub _⊠_ : Poly → Poly → Poly
 [] ⊠ q = []
 (a ∷ p) ⊠ q = times a q ⊞ (pos 0 ∷ (p ⊠ q))
 
--- the first of two signs that is not 0
-abbrev pub first : ℤ → ℤ → ℤ
-first (pos zero) t = t
-first (pos (suc n)) t = pos (suc n)
-first (negsuc n) t = negsuc n
-
 -- the sign of the highest coefficient that is not 0; 0 if there is none
 abbrev pub leading : Poly → ℤ
 leading [] = pos 0
-leading (c ∷ p) = first (leading p) (sgn c)
+leading (c ∷ p) = orElse (leading p) (sgn c)

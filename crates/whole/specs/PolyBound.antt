@@ -10,7 +10,8 @@ use lib.Dec.{T, leb}
 use lib.Ieee.Fits.{and-l, and-r}
 use lib.IntN.{ℤ, pos}
 use lib.Signed.{_<ℤ_}
-use Rattle.whole.specs.Bound.{Within, w-add, w-neg, w-mul, w-pos, w-lit}
+use Rattle.whole.specs.Within.{Within}
+use Rattle.whole.specs.Bound.{w-add, w-neg, w-mul, w-pos, w-lit}
 use Rattle.whole.specs.Poly.{Poly, _⊞_, times, opposite, _⊟_, _⊠_}
 use Rattle.whole.specs.Lead.{Below, none, highest, _under_, small}
 

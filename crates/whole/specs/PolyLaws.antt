@@ -1,18 +1,17 @@
--- The value at R of sums and products of polynomials, and the first of two signs. To cite:
+-- The value at R of sums and products of polynomials. To cite:
 --   value-one, value-two                                   of one coefficient, of two
 --   value-sum, value-times, value-opposite, value-difference, value-product
---   first-neg, first-ne, first-sgn, first-zero, first-zero-right, first-assoc   the first of two signs that is not 0
 --   leading-opposite                                       the leading sign of an opposite
 -- Assumes nothing.
-use mathlib.Core.Path.{_≡_, refl, sym, _∙_, ap, ap₂, subst}
+use mathlib.Core.Path.{_≡_, refl, sym, _∙_, ap, ap₂}
 use mathlib.Core.List.{[], _∷_}
-use Prim.Native.Nat.{zero, suc}
-use native.Mathlib.Omega.{arith}
-use lib.IntN.{ℤ, pos, negsuc, negℤ, natAbs, _+ℤ_, _-ℤ_, _*ℤ_, +ℤ-idl, +ℤ-idr, *ℤ-zero, zero-*ℤ, pos-ne-negsuc}
+use lib.IntN.{ℤ, pos, negℤ, _+ℤ_, _-ℤ_, _*ℤ_, +ℤ-idl, +ℤ-idr, *ℤ-zero, zero-*ℤ}
 use Rattle.whole.specs.Ring.{var, lit, _⊕_, _⊗_, ⊝_, ring}
 use Rattle.whole.specs.Sign.{sgn}
-use Rattle.whole.specs.SignLaws.{sgn-neg-eq, sgn-sgn, Signs, signs, minus, nought, plus}
-use Rattle.whole.specs.Poly.{Poly, value, _⊞_, times, opposite, _⊟_, _⊠_, first, leading}
+use Rattle.whole.specs.SignLaws.{sgn-neg-eq}
+use Rattle.whole.specs.Poly.{Poly, value, _⊞_, times, opposite, _⊟_, _⊠_, leading}
+use Rattle.whole.specs.Choice.{orElse}
+use Rattle.whole.specs.ChoiceLaws.{or-neg}
 
 pub value-one : (R c : ℤ) → value (c ∷ []) R ≡ c
 value-one R c = ring (R ∷ c ∷ []) (lit 0 ⊗ var 0 ⊕ var 1) (var 1) tt
@@ -61,48 +60,6 @@ value-product (a ∷ p) q R =
     ((var 2 ⊗ var 3 ⊕ var 0) ⊗ var 1)
     tt
 
--- ---- the first of two signs
-
-pub first-neg : (s t : ℤ) → first (negℤ s) (negℤ t) ≡ negℤ (first s t)
-first-neg (pos zero) t = refl
-first-neg (pos (suc n)) t = refl
-first-neg (negsuc n) t = refl
-
-pub first-zero : (s t : ℤ) → first s t ≡ pos 0 → (s ≡ pos 0) × (t ≡ pos 0)
-first-zero (pos zero) t e = (refl, e)
-first-zero (pos (suc n)) t e = let z : suc n ≡ 0 = ap natAbs e in absurd (omega arith)
-first-zero (negsuc n) t e = absurd (pos-ne-negsuc 0 n (sym e))
-
-pub first-zero-right : (s : ℤ) → first s (pos 0) ≡ s
-first-zero-right (pos zero) = refl
-first-zero-right (pos (suc n)) = refl
-first-zero-right (negsuc n) = refl
-
-pub first-assoc : (s t u : ℤ) → first s (first t u) ≡ first (first s t) u
-first-assoc (pos zero) t u = refl
-first-assoc (pos (suc n)) t u = refl
-first-assoc (negsuc n) t u = refl
-
 pub leading-opposite : (p : Poly) → leading (opposite p) ≡ negℤ (leading p)
 leading-opposite [] = refl
-leading-opposite (c ∷ p) = ap₂ first (leading-opposite p) (sgn-neg-eq c) ∙ first-neg (leading p) (sgn c)
-
-pub first-ne : (a t : ℤ) → (a ≡ pos 0 → ⊥) → first (sgn a) t ≡ sgn a
-first-ne a t n = go (signs a)
-  where
-    go : Signs a → first (sgn a) t ≡ sgn a
-    go (minus h e) = ap (λ (s : ℤ). first s t) e ∙ sym e
-    go (nought z e) = absurd (n z)
-    go (plus h e) = ap (λ (s : ℤ). first s t) e ∙ sym e
-
--- the first of two signs is a sign
-pub first-sgn : (a b : ℤ) → sgn (first (sgn a) (sgn b)) ≡ first (sgn a) (sgn b)
-first-sgn a b = go (signs a)
-  where
-    keep : {s : ℤ} → sgn a ≡ s → sgn (first s (sgn b)) ≡ first s (sgn b) → sgn (first (sgn a) (sgn b)) ≡ first (sgn a) (sgn b)
-    keep e h = subst (λ (s : ℤ). sgn (first s (sgn b)) ≡ first s (sgn b)) (sym e) h
-
-    go : Signs a → sgn (first (sgn a) (sgn b)) ≡ first (sgn a) (sgn b)
-    go (minus h e) = keep e (ap sgn (sym e) ∙ sgn-sgn a ∙ e)
-    go (nought z e) = keep e (sgn-sgn b)
-    go (plus h e) = keep e (ap sgn (sym e) ∙ sgn-sgn a ∙ e)
+leading-opposite (c ∷ p) = ap₂ orElse (leading-opposite p) (sgn-neg-eq c) ∙ or-neg (leading p) (sgn c)

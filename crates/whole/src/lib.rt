@@ -1,10 +1,11 @@
-// Whole numbers: their sign, their size and their greatest common divisor. Nothing here knows of sheets.
+// Whole numbers: their sign, their size, their greatest common divisor, and the first that is not 0. Nothing here knows of sheets.
 ghost use mathlib.Core.Path.{_≡_};
 ghost use mathlib.Core.Logic.{_⊎_};
 ghost use Prim.Native.Nat.{_≤_};
 ghost use lib.IntN.{natAbs};
 ghost use Rattle.whole.specs.Sign.{sgn};
 ghost use Rattle.whole.specs.Divisor.{IsGcd};
+ghost use Rattle.whole.specs.Choice.{orElse};
 
 // -1, 0 or 1.
 pub fn sign(x: i64) -> i64
@@ -58,4 +59,14 @@ pub fn gcd(a: u64, b: u64) -> u64
         return 1;
     }
     x
+}
+
+// The first of two numbers that is not 0; 0 where both are.
+pub fn or_else(n: i64, m: i64) -> i64
+    ensures { λ r. ⌜ r ≡ orElse n m ⌝ }
+{
+    if n == 0 {
+        return m;
+    }
+    n
 }

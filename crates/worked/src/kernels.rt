@@ -2,13 +2,13 @@
 use crate::say;
 use kernel::crossing::cross;
 use kernel::ends::ends_of;
-use kernel::points::check_object;
 use kernel::points::check_point;
 use kernel::signs::order_points;
 use kernel::signs::side_of;
 use kernel::signs::turn_points;
 use sheet::Object;
 use sheet::Point;
+use sheet::object_refusal;
 
 const LEAST: i64 = -9_223_372_036_854_775_808;
 
@@ -78,9 +78,9 @@ pub fn points_and_sides() {
 
 pub fn checks() {
     say::text(b"kind 0, kind 5, side with a fourth number, point of nothing");
-    say::number(check_object(obj(0, 0, 0, 0, 0)));
-    say::number(check_object(obj(5, 0, 0, 1, 1)));
-    say::number(check_object(obj(4, 1, 0, 0, 1)));
+    say::number(object_refusal(obj(0, 0, 0, 0, 0)));
+    say::number(object_refusal(obj(5, 0, 0, 1, 1)));
+    say::number(object_refusal(obj(4, 1, 0, 0, 1)));
     say::number(check_point(pt(0, 0, 0, 0, 0)));
     say::end();
     say::text(b"origin, origin twice, corner, beyond the frame");

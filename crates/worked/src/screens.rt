@@ -6,9 +6,9 @@ use crate::say;
 use kernel::crossing::cross;
 use kernel::ends::ends_of;
 use screen::Boxed;
-use screen::Extent;
-use screen::Place;
-use screen::extents::box_of;
+use screen::OnScreen;
+use screen::SheetBox;
+use screen::boxes::box_of;
 use screen::places::place_of;
 use sheet::Crossing;
 use sheet::Ends;
@@ -29,20 +29,20 @@ fn float(x: f64) {
 
 fn place(p: Point) {
     match place_of(p) {
-        Place::At(x, y) => {
+        OnScreen::At(x, y) => {
             say::text(b" at");
             float(x);
             float(y);
             say::end();
         }
-        Place::Edge(side, slope, offset) => {
+        OnScreen::Edge(side, slope, offset) => {
             say::text(b" side");
             say::number(side);
             float(slope);
             float(offset);
             say::end();
         }
-        Place::Refused(n) => say::refused(n),
+        OnScreen::Refused(n) => say::refused(n),
     }
 }
 
@@ -60,7 +60,7 @@ fn ends(kind: i64, px: i64, py: i64, qx: i64, qy: i64) {
     }
 }
 
-fn extent(e: Extent) {
+fn around(e: SheetBox) {
     if e.none {
         say::text(b" around nothing");
     } else {
@@ -75,7 +75,7 @@ fn extent(e: Extent) {
 
 fn boxed(list: &[i64]) {
     match box_of(list) {
-        Boxed::Around(e) => extent(e),
+        Boxed::Around(e) => around(e),
         Boxed::Refused(n) => say::refused(n),
     }
 }

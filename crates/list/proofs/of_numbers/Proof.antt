@@ -1,3 +1,4 @@
+-- `of_numbers` meets its contract: either number is at most the length, so as many numbers as it says can be taken from the front.
 use mathlib.Core.Path.{sym}
 use Prim.Native.Nat.{_≤_}
 use native.Mathlib.Omega.{arith}

@@ -6,21 +6,21 @@ use lib.IntN.{ℤ, pos, negsuc}
 use mir.Syntax.{w64}
 use mir.Val.{ofZ}
 use Rattle.sheet.specs.AnswersLaws.{not-refused}
-use Rattle.list.specs.Moving.{listed, refused, unwritten, answered, told}
+use Rattle.list.specs.Moving.{listed, refused, unwritten, statusAll, statusOf}
 use Rattle.list.specs.MovingLaws.{kept}
 use Rattle.list.proofs.status.Statement.{statement}
 use Rattle.list.proofs.status.Tie as tie
 
-cut-short : (whole : Bool) (z : ℤ) → not whole ≡ true → unwritten ≡ told whole z
+cut-short : (whole : Bool) (z : ℤ) → not whole ≡ true → unwritten ≡ statusOf whole z
 cut-short true z e = absurd (true≢false (sym e))
 cut-short false z e = refl
 
-no : (z : ℤ) → (z ≡ pos 0 → ⊥) → refused ≡ answered z
+no : (z : ℤ) → (z ≡ pos 0 → ⊥) → refused ≡ statusAll z
 no (pos zero) e = absurd (e refl)
 no (pos (suc n)) e = refl
 no (negsuc n) e = refl
 
-went : (whole : Bool) (z : ℤ) (n : ℕ) → whole ≡ true → n ≡ answered z → n ≡ told whole z
+went : (whole : Bool) (z : ℤ) (n : ℕ) → whole ≡ true → n ≡ statusAll z → n ≡ statusOf whole z
 went true z n e h = h
 went false z n e h = absurd (true≢false (sym e))
 
@@ -37,7 +37,7 @@ returns-3 : tie.Need-returns-3
 returns-3 c =
     let s = c .before .before in
     went (s .args .whole) (s .args .refusal) listed (kept (s .args .whole) (c .before .if1 .left))
-    (ap answered (sym (not-refused {r = s .args .refusal} (s .fits .refusal .sfits) refl (c .if2 .left))))
+    (ap statusAll (sym (not-refused {r = s .args .refusal} (s .fits .refusal .sfits) refl (c .if2 .left))))
 
 pub status-spec : {M : Type 1} → statement M
 status-spec = tie.close (tie.spec returns returns-2 returns-3)

@@ -1,12 +1,15 @@
-use mathlib.Core.Path.{_≡_, _∙_}
-use lib.IntN.{pos}
-use Rattle.whole.specs.Tests.{fits-ok}
+-- `list_all` meets its contract: it is refused as the list is, or it ends as the rows of all its objects do.
+use mathlib.Core.Path.{_≡_, subst}
+use mathlib.Core.List.{List}
+use native.Mathlib.Omega.{arith}
+use lib.IntN.{ℤ, pos}
+use Rattle.whole.specs.InTurnLaws.{between-all}
 use Rattle.sheet.specs.AnswersLaws.{not-refused}
-use Rattle.sheet.specs.Lists.{listRefusal}
-use Rattle.sheet.specs.ListsLaws.{Listable, listable}
-use Rattle.listing.specs.Rows.{rowsOf, sharing}
+use Rattle.sheet.specs.Lists.{countOf, listRefusal}
+use Rattle.sheet.specs.ListsLaws.{listable}
+use Rattle.listing.specs.Rows.{rowsWith, rowsOf, sharing}
 use Rattle.listing.specs.RowsLaws.{length-rows}
-use Rattle.listing.proofs.Cases.{refused, short, room, done}
+use Rattle.listing.specs.ListingLaws.{Listing, listing-is, listing-refused}
 use borrow.Author.Needs.{needs}
 use Rattle.listing.proofs.list_all.Statement.{statement}
 use Rattle.listing.proofs.list_all.Tie as tie
@@ -15,61 +18,26 @@ use Rattle.listing.proofs.list_all.Tie as tie
 accepted : (c : tie.Else1) → listRefusal (c .before .before .args .list .now) ≡ pos 0
 accepted c = not-refused (c .before .list-refusal .ok) (c .before .list-refusal .ensures) (c .if1 .left)
 
-known : (c : tie.Else1) → Listable (c .before .before .args .list .now)
-known c = listable (c .before .before .args .list .now) (accepted c)
-
 returns : tie.Need-returns
 returns c =
-    let d = c .before in
-    let s = d .before .before in
+    let s = c .before .before in
     let l = s .args .list .now in
-    let r = d .before .list-refusal in
-    let x = refused (sharing l) (rowsOf l) (s .args .out .now) (r .result) (fits-ok (r .result) (r .ok)) (r .ensures) (d .if1 .taken) in
-    (c .refuse .ensures ∙ x .0, x .1)
+    let r = c .before .list-refusal in
+    listing-refused (sharing l) (rowsOf l) (s .args .out .now) (length-rows l) (r .ok) (r .ensures) (c .if1 .taken)
 
-lacking-room-requires : tie.Need-lacking-room-requires
-lacking-room-requires c κs = known c
+list-pairs-requires : tie.Need-list-pairs-requires
+list-pairs-requires c κs =
+    let l = c .before .before .before .args .list .now in
+    record { list = listable l (accepted (c .before)); order = omega arith; end = omega arith }
 
 returns-2 : tie.Need-returns-2
 returns-2 c =
-    let d = c .before in
-    let e = d .before .before in
-    let s = e .before .before in
+    let p = c .before .list-pairs in
+    let k = c .before .before .before in
+    let s = k .before .before in
     let l = s .args .list .now in
-    let k = d .before .lacking-room in
-    let x = short (sharing l) (rowsOf l) (s .args .out .now) (accepted e) (length-rows l) (k .result) (k .ensures) (d .if2 .taken) in
-    (c .refuse2 .ensures ∙ x .0, x .1)
-
-put-rows-requires : tie.Need-put-rows-requires
-put-rows-requires c κs =
-    let k = c .before .before in
-    let s = k .before .before .before in
-    let l = s .args .list .now in
-    (known (k .before), room (sharing l) (rowsOf l) (s .args .out .now) (length-rows l) (k .lacking-room .result) (k .lacking-room .ensures) (c .before .if2 .left))
-
-returns-3 : tie.Need-returns-3
-returns-3 c =
-    let d = c .before in
-    let k = d .before .before .before .before in
-    let s = k .before .before .before in
-    let l = s .args .list .now in
-    let w = d .before .put-rows in
-    let fits = room (sharing l) (rowsOf l) (s .args .out .now) (length-rows l) (k .lacking-room .result) (k .lacking-room .ensures)
-    (d .before .before .before .if2 .left) in
-    let x = done (sharing l) (rowsOf l) (s .args .out .now) (accepted (k .before)) (length-rows l) fits (w .ensures) in
-    (c .accept .ensures ∙ x .0, x .1)
+    listing-is (sharing l) (rowsOf l) (accepted k) (length-rows l)
+    (subst (λ (rows : List ℤ). Listing rows (s .args .out .now) (p .result) (p .last .1 .1 .1 .0)) (between-all (λ i. rowsWith l i) (countOf l)) (p .ensures))
 
 pub list-all-spec : {M : Type 1} → statement M
-list-all-spec =
-    tie.close
-    (tie.spec
-    (λ c κs. search needs)
-    (λ c κs. search needs)
-    returns
-    lacking-room-requires
-    (λ c κs. search needs)
-    returns-2
-    put-rows-requires
-    (λ c κs. search needs)
-    (λ c. search needs)
-    returns-3)
+list-all-spec = tie.close (tie.spec (λ c κs. search needs) returns list-pairs-requires (λ c. search needs) returns-2)

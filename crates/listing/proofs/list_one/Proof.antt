@@ -1,15 +1,18 @@
-use Prim.Native.Nat.{_<_}
-use mathlib.Core.Path.{_≡_, _∙_}
+-- `list_one` meets its contract: it is refused as the list and the index are, or it ends as the rows of that object do.
+use mathlib.Core.Path.{_≡_, subst}
+use mathlib.Core.List.{List}
 use native.Mathlib.Omega.{arith}
-use lib.IntN.{pos}
-use Rattle.whole.specs.Tests.{fits-ok}
-use Rattle.sheet.specs.AnswersLaws.{or-zero, not-refused}
-use Rattle.sheet.specs.Lists.{countOf, listRefusal, indexRefusal}
-use Rattle.sheet.specs.ListsLaws.{Listable, listable, index-below}
+use lib.IntN.{ℤ, pos}
+use Rattle.whole.specs.ChoiceLaws.{or-zero}
+use Rattle.whole.specs.InTurnLaws.{between-one}
+use Rattle.sheet.specs.AnswersLaws.{not-refused}
+use Rattle.sheet.specs.Lists.{listRefusal, indexRefusal}
+use Rattle.sheet.specs.ListsLaws.{listable, index-below}
+use Prim.Native.Nat.{_+_}
 use Rattle.listing.specs.Rows.{rowsWith, sharingWith}
-use Rattle.listing.specs.RowsLaws.{length-rows-with}
+use Rattle.listing.specs.RowsLaws.{Between, length-rows-with}
 use Rattle.listing.specs.Listing.{oneRefusal}
-use Rattle.listing.proofs.Cases.{refused, short, room, done}
+use Rattle.listing.specs.ListingLaws.{Listing, listing-is, listing-refused}
 use borrow.Author.Needs.{needs}
 use Rattle.listing.proofs.list_one.Statement.{statement}
 use Rattle.listing.proofs.list_one.Tie as tie
@@ -18,74 +21,36 @@ use Rattle.listing.proofs.list_one.Tie as tie
 accepted : (c : tie.Else1) → oneRefusal (c .before .before .args .list .now) (c .before .before .args .i) ≡ pos 0
 accepted c = not-refused (c .before .index-refusal .ok) (c .before .index-refusal .ensures) (c .if1 .left)
 
-known : (c : tie.Else1) → Listable (c .before .before .args .list .now) × (c .before .before .args .i < countOf (c .before .before .args .list .now))
+known : (c : tie.Else1) → let s = c .before .before in Between (s .args .list .now) (s .args .i) (s .args .i + 1)
 known c =
     let s = c .before .before in
     let l = s .args .list .now in
     let z = or-zero (listRefusal l) (indexRefusal l (s .args .i)) (accepted c) in
-    (listable l (z .0), index-below l (s .args .i) (z .1))
+    record { list = listable l (z .0); order = omega arith; end = omega (arith, index-below l (s .args .i) (z .1)) }
 
 returns : tie.Need-returns
 returns c =
-    let d = c .before in
-    let s = d .before .before in
+    let s = c .before .before in
     let l = s .args .list .now in
-    let r = d .before .index-refusal in
-    let x = refused (sharingWith l (s .args .i)) (rowsWith l (s .args .i)) (s .args .out .now)
-    (r .result) (fits-ok (r .result) (r .ok)) (r .ensures) (d .if1 .taken) in
-    (c .refuse .ensures ∙ x .0, x .1)
+    let i = s .args .i in
+    let r = c .before .index-refusal in
+    listing-refused (sharingWith l i) (rowsWith l i) (s .args .out .now) (length-rows-with l i) (r .ok) (r .ensures) (c .if1 .taken)
 
-lacking-with-requires : tie.Need-lacking-with-requires
-lacking-with-requires c κs = known c
+add-list-pairs : tie.Need-add-list-pairs
+add-list-pairs c = omega (arith, known c .end)
+
+list-pairs-requires : tie.Need-list-pairs-requires
+list-pairs-requires c κs = known (c .before)
 
 returns-2 : tie.Need-returns-2
 returns-2 c =
-    let d = c .before in
-    let e = d .before .before in
-    let s = e .before .before in
+    let p = c .before .list-pairs in
+    let k = c .before .before .before in
+    let s = k .before .before in
     let l = s .args .list .now in
     let i = s .args .i in
-    let x = short (sharingWith l i) (rowsWith l i) (s .args .out .now) (accepted e) (length-rows-with l i (known e .1))
-    (d .before .lacking-with .result) (d .before .lacking-with .ensures) (d .if2 .taken) in
-    (c .refuse2 .ensures ∙ x .0, x .1)
-
-put-rows-with-requires : tie.Need-put-rows-with-requires
-put-rows-with-requires c κs =
-    let k = c .before .before in
-    let e = k .before in
-    let s = e .before .before in
-    let l = s .args .list .now in
-    let i = s .args .i in
-    let fits = room (sharingWith l i) (rowsWith l i) (s .args .out .now) (length-rows-with l i (known e .1))
-    (k .lacking-with .result) (k .lacking-with .ensures) (c .before .if2 .left) in
-    (known e, omega (arith, fits))
-
-returns-3 : tie.Need-returns-3
-returns-3 c =
-    let d = c .before in
-    let k = d .before .before .before .before in
-    let e = k .before in
-    let s = e .before .before in
-    let l = s .args .list .now in
-    let i = s .args .i in
-    let w = d .before .put-rows-with in
-    let h = length-rows-with l i (known e .1) in
-    let fits = room (sharingWith l i) (rowsWith l i) (s .args .out .now) h (k .lacking-with .result) (k .lacking-with .ensures)
-    (d .before .before .before .if2 .left) in
-    let x = done (sharingWith l i) (rowsWith l i) (s .args .out .now) (accepted e) h fits (w .ensures) in
-    (c .accept .ensures ∙ x .0, x .1)
+    listing-is (sharingWith l i) (rowsWith l i) (accepted k) (length-rows-with l i)
+    (subst (λ (rows : List ℤ). Listing rows (s .args .out .now) (p .result) (p .last .1 .1 .1 .0)) (between-one (λ i. rowsWith l i) i) (p .ensures))
 
 pub list-one-spec : {M : Type 1} → statement M
-list-one-spec =
-    tie.close
-    (tie.spec
-    (λ c κs. search needs)
-    (λ c κs. search needs)
-    returns
-    lacking-with-requires
-    (λ c κs. search needs)
-    returns-2
-    put-rows-with-requires
-    (λ c κs. search needs)
-    (λ c. search needs)
-    returns-3)
+list-one-spec = tie.close (tie.spec (λ c κs. search needs) returns add-list-pairs list-pairs-requires (λ c. search needs) returns-2)

@@ -1,12 +1,14 @@
 -- `put_all` meets its contract. The invariant: the first k rows are written.
-use borrow.Author.Needs.{needs}
 use mathlib.Core.Path.{_≡_, sym, ap}
-use Prim.Native.Nat.{_-_, _≤_}
+use Prim.Native.Nat.{ℕ, _+_, _*_, _-_, _≤_}
 use native.Mathlib.Omega.{arith}
-use Rattle.rowtext.specs.Text.{rowsTo}
+use lib.ListN.{take, drop}
+use Rattle.sheet.specs.Lent.{Wrote}
+use Rattle.sheet.specs.LentLaws.{wrote-none, wrote-two, wrote-as, wrote-length}
+use Rattle.sheet.specs.Lists.{rowWidth}
+use Rattle.rowtext.specs.Text.{rowText, rowsTo}
 use Rattle.rowtext.specs.TextLaws.{rows-more}
-use Rattle.rowtext.specs.Put.{Wrote}
-use Rattle.rowtext.specs.WroteLaws.{wrote-none, wrote-more, wrote-as, wrote-length}
+use borrow.Author.Needs.{needs}
 use Rattle.rowtext.proofs.put_all.Statement.{statement}
 use Rattle.rowtext.proofs.put_all.Tie as tie
 
@@ -21,15 +23,14 @@ loop-holds : tie.Need-loop-holds Inv-loop μ-loop
 unfolding rowsTo
 loop-holds c = (omega arith, wrote-none (omega arith) (omega arith))
 
-put-row-requires : tie.Need-put-row-requires Inv-loop μ-loop
-put-row-requires c κs = omega arith
-
 loop-again : tie.Need-loop-again Inv-loop μ-loop
 loop-again c =
-    let s = c .before .before .before .before .before .before .before in
-    let inv = c .before .before .before .before .before .loop .inv in
-    let k = c .before .before .before .before .before .loop .k in
-    (omega arith, wrote-as (wrote-more (inv .1) (c .before .before .put-row .ensures)) (sym (rows-more (s .args .list .now) k)))
+    let loop = c .before .before .before .before .before .before in
+    let list = loop .before .before .args .list .now in
+    let k = loop .loop .k in
+    let wide : k * rowWidth + rowWidth - k * rowWidth ≡ rowWidth = omega arith in
+    let row = ap (λ (n : ℕ). rowText (take n (drop (k * rowWidth) list))) wide in
+    (omega arith, wrote-as (wrote-two (loop .loop .inv .1) (wrote-as (c .before .before .put-row .ensures) row)) (sym (rows-more list k)))
 
 same-length : tie.Need-same-length Inv-loop μ-loop
 same-length c = wrote-length (c .before .loop .inv .1)
@@ -48,7 +49,12 @@ put-all-spec =
     μ-loop
     loop-holds
     (λ c. search needs)
-    put-row-requires
+    (λ c. search needs)
+    (λ c. search needs)
+    (λ c. search needs)
+    (λ c. search needs)
+    (λ c. search needs)
+    (λ c κs. search needs)
     (λ c. search needs)
     (λ c. search needs)
     loop-again

@@ -1,7 +1,7 @@
 -- `put_count` meets its contract: a count is not below 0.
 use Rattle.rowtext.specs.Text.{rowsWord}
 use Rattle.rowtext.specs.TextLaws.{count-line}
-use Rattle.rowtext.specs.PutLaws.{says-as}
+use Rattle.rowtext.specs.PutLaws.{end-as, put-ends}
 use borrow.Author.Needs.{needs}
 use Rattle.rowtext.proofs.put_count.Statement.{statement}
 use Rattle.rowtext.proofs.put_count.Tie as tie
@@ -9,8 +9,8 @@ use Rattle.rowtext.proofs.put_count.Tie as tie
 returns : tie.Need-returns
 returns c =
     let s = c .before .before .before .before .before .before in
-    let says = says-as (c .before .before .put-line .ensures) (count-line rowsWord (s .args .n)) in
-    (says .answer, says .bytes)
+    let end = put-ends (end-as (c .before .before .put-line .ensures) (count-line rowsWord (s .args .n))) in
+    (end .0, end .1)
 
 pub put-count-spec : {M : Type 1} → statement M
 put-count-spec =

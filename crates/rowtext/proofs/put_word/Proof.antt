@@ -1,5 +1,5 @@
 -- `put_word` meets its contract: its three parts stand one after another.
-use Rattle.rowtext.specs.WroteLaws.{wrote-more}
+use Rattle.sheet.specs.LentLaws.{wrote-two}
 use borrow.Author.Needs.{needs}
 use Rattle.rowtext.proofs.put_word.Statement.{statement}
 use Rattle.rowtext.proofs.put_word.Tie as tie
@@ -8,7 +8,7 @@ returns : tie.Need-returns
 returns c =
     let number = c .before .before .before .before .before .before in
     let word = number .before .before .before .before in
-    wrote-more (wrote-more (word .put-text .ensures) (number .put-sized .ensures)) (c .before .before .put-byte .ensures)
+    wrote-two (wrote-two (word .put-text .ensures) (number .put-sized .ensures)) (c .before .before .put-byte .ensures)
 
 pub put-word-spec : {M : Type 1} → statement M
 put-word-spec =

@@ -1,3 +1,4 @@
+-- `any_beyond` meets its contract: its four flags are those of `anyBeyond`.
 use Rattle.whole.specs.Tests.{out-is}
 use borrow.Author.Needs.{needs}
 use Rattle.sheet.proofs.any_beyond.Statement.{statement}

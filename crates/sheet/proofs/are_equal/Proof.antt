@@ -1,3 +1,4 @@
+-- `are_equal` meets its contract: its two tests are those of `equal`.
 use Rattle.whole.specs.Tests.{eq-flag}
 use Rattle.sheet.proofs.are_equal.Statement.{statement}
 use Rattle.sheet.proofs.are_equal.Tie as tie

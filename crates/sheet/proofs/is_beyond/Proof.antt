@@ -1,3 +1,4 @@
+-- `is_beyond` meets its contract: it is `is_outside` of -2,000 and 2,000, as `beyond` is `outside` of them.
 use borrow.Author.Needs.{needs}
 use Rattle.whole.specs.Tests.{out-is}
 use Rattle.sheet.proofs.is_beyond.Statement.{statement}

@@ -1,3 +1,4 @@
+-- `is_no_side` meets its contract: its five tests are those of `noSide`.
 use Rattle.whole.specs.Tests.{out-is, lit-flag}
 use Rattle.sheet.proofs.is_no_side.Statement.{statement}
 use Rattle.sheet.proofs.is_no_side.Tie as tie

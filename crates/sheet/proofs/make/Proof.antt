@@ -1,3 +1,4 @@
+-- `make` meets its contract: a refusal that is not 0 is answered; where it is 0 the object has the five numbers.
 use mathlib.Core.Path.{_≡_}
 use Rattle.whole.specs.Tests.{out-is}
 use Rattle.sheet.specs.AnswersLaws.{says-refused, says-accepted}

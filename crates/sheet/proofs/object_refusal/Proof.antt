@@ -1,3 +1,4 @@
+-- `object_refusal` meets its contract: the five numbers that it hands on are the object's, and the type's three constants are the paper's.
 use mathlib.Core.Path.{refl, _∙_}
 use Rattle.whole.specs.Tests.{out-ok}
 use Rattle.sheet.specs.Refusal.{objectRefusal}

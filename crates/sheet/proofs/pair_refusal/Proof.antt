@@ -1,3 +1,4 @@
+-- `pair_refusal` meets its contract: its two flags, `any_beyond` and then `are_equal`, are those of `pairRefusal`.
 use mathlib.Core.Path.{_≡_, sym, _∙_}
 use Rattle.whole.specs.Tests.{out-is}
 use Rattle.sheet.specs.Refusal.{anyBeyond, equal, pairRefusal}

@@ -1,3 +1,4 @@
+-- `refusal_of` meets its contract: the tests of the kind are those of `refusalOf`: not 1 to 4, then 4, and else a pair.
 use mathlib.Core.Path.{_≡_, sym, _∙_}
 use lib.IntN.{pos}
 use Rattle.whole.specs.Tests.{out-is, out-ok, eq-left, eq-eqZ, ne-eqZ, lit-taken}

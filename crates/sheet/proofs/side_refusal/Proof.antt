@@ -1,3 +1,4 @@
+-- `side_refusal` meets its contract: its flag is that of `sideRefusal`.
 use mathlib.Core.Path.{_≡_, sym, _∙_}
 use Rattle.whole.specs.Tests.{out-is}
 use Rattle.sheet.specs.Refusal.{noSide, sideRefusal}

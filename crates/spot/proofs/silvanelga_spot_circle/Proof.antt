@@ -1,3 +1,4 @@
+-- `silvanelga_spot_circle` meets its contract: it is `of_sign` of what `side_of_circle` answers.
 use mathlib.Core.Path.{_∙_, ap}
 use Rattle.spot.specs.Numbers.{answerOf}
 use borrow.Author.Needs.{needs}

@@ -1,3 +1,4 @@
+-- `silvanelga_spot_cross` meets its contract: it is `of_crossing` of what `cross` answers.
 use mathlib.Core.Path.{_∙_, ap}
 use Rattle.spot.specs.Numbers.{answerOf}
 use borrow.Author.Needs.{needs}

@@ -1,3 +1,4 @@
+-- `silvanelga_spot_ends` meets its contract: it is `of_ends` of what `ends_of` answers.
 use mathlib.Core.Path.{_∙_, ap}
 use Rattle.spot.specs.Numbers.{twoEndsOf}
 use borrow.Author.Needs.{needs}

@@ -1,3 +1,4 @@
+-- `silvanelga_spot_order` meets its contract: it is `of_sign` of what `order_points` answers.
 use mathlib.Core.Path.{_∙_, ap}
 use Rattle.spot.specs.Numbers.{answerOf}
 use borrow.Author.Needs.{needs}

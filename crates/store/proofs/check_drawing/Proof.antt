@@ -1,11 +1,11 @@
--- `check_drawing` meets its contract: the count, and then the objects behind it. Assumes nothing.
+-- `check_drawing` meets its contract: the count, and then the objects behind it.
 use borrow.Author.Needs.{needs}
 use mathlib.Core.Path.{sym, ap, _∙_}
 use mathlib.Core.List.{List}
 use Prim.Native.Nat.{ℕ}
 use Rattle.whole.specs.Tests.{out-ok}
-use Rattle.store.specs.Stored.{Drawing, readObjects}
-use Rattle.store.specs.TellsLaws.{rest-is}
+use Rattle.store.specs.Stored.{plain, Drawing, readObjects}
+use Rattle.number.specs.ReadAsLaws.{rest-is}
 use Rattle.store.specs.ObjectsLaws.{drawing-refused, drawing-counted}
 use Rattle.store.proofs.check_drawing.Statement.{statement}
 use Rattle.store.proofs.check_drawing.Tie as tie
@@ -16,9 +16,6 @@ returns c =
     let ok = c .before .struct-told .given .0 .1 in
     out-ok (r .result .refusal) ok ∙ sym (ap (λ (d : Drawing). d .refusal) (drawing-refused (r .ensures .0) ok (c .if1 .taken)))
 
-read-objects-requires : tie.Need-read-objects-requires
-read-objects-requires c κs = c .before .before .before .before .read-count .ensures .1
-
 returns-2 : tie.Need-returns-2
 returns-2 c =
     let o = c .before .read-objects in
@@ -28,7 +25,7 @@ returns-2 c =
     (c .before .before .before .before .if1 .left) in
     out-ok (o .result) (o .ok)
     ∙ o .ensures .0
-    ∙ ap (λ (l : List ℕ). readObjects (r .result .value) l .refusal) (rest-is (r .result .size) bs)
+    ∙ ap (λ (l : List ℕ). readObjects plain (r .result .value) l .refusal) (rest-is (r .result .size) bs)
     ∙ sym (ap (λ (d : Drawing). d .refusal) d)
 
 pub check-drawing-spec : {M : Type 1} → statement M
@@ -41,5 +38,5 @@ check-drawing-spec =
     (λ c. search needs)
     (λ c. search needs)
     (λ c. search needs)
-    read-objects-requires
+    (λ c κs. search needs)
     returns-2)

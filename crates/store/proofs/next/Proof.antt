@@ -47,8 +47,8 @@ use Rattle.store.specs.declared.Stepped.{Stepped}
 use Rattle.store.specs.declared.Taken.{Taken}
 use Rattle.store.proofs.Reader as T
 use Rattle.store.proofs.Reader.Laws as T′
-use Rattle.store.proofs.Place as S
-use Rattle.store.proofs.Place.Laws as S′
+use Rattle.store.proofs.Bookmark as S
+use Rattle.store.proofs.Bookmark.Laws as S′
 use Rattle.store.proofs.Stepped as R
 use Rattle.store.proofs.Stepped.Laws as R′
 use Rattle.store.proofs.Taken as F

@@ -41,11 +41,11 @@ use denote.Exit.{yes}
 use denote.Triple.Clauses.{ensured, lasts}
 use Rattle.store.specs.Reader.{startPlace}
 use Rattle.store.specs.declared.Reader.{Reader}
-use Rattle.store.specs.declared.Place.{Place}
+use Rattle.store.specs.declared.Bookmark.{Bookmark}
 use Rattle.store.proofs.Reader as T
 use Rattle.store.proofs.Reader.Laws as T′
-use Rattle.store.proofs.Place as S
-use Rattle.store.proofs.Place.Laws as S′
+use Rattle.store.proofs.Bookmark as S
+use Rattle.store.proofs.Bookmark.Laws as S′
 use Rattle.store.proofs.start as start
 use Rattle.store.proofs.start.Symbol as start-def
 use Rattle.store.proofs.start.Symbol.{name as #store·start}
@@ -71,7 +71,7 @@ module _ {M : Type 1} (𝓤 : URA M) (H : Heap 𝓤) (A : Atoms 𝓤) (W : Given
   abbrev v : Val
   v = sliceVal (s .ptr) (length (s .now))
 
-  abbrev made : Place → Reader
+  abbrev made : Bookmark → Reader
   made c = record { bytes = s; place = c }
 
   abbrev at : List Val × Unit {0}
@@ -90,10 +90,10 @@ module _ {M : Type 1} (𝓤 : URA M) (H : Heap 𝓤) (A : Atoms 𝓤) (W : Given
   asked : ent 𝓤 (emp 𝓤) (Start 𝓤 H A mem run .pre to)
   asked = qed W [] ∵ nothing ! $ nothing ! $ join ! $ frame ! $ done !
 
-  said : (c : Place) → ent 𝓤 (ensured 𝓤 H A start.ended (start.clauses 𝓤 H A mem run) tt tt tt c) (fact 𝓤 (c ≡ startPlace))
+  said : (c : Bookmark) → ent 𝓤 (ensured 𝓤 H A start.ended (start.clauses 𝓤 H A mem run) tt tt tt c) (fact 𝓤 (c ≡ startPlace))
   said c = exE 𝓤 _ (λ ws. snd∗ 𝓤 (sem 𝓤 H A (lasts start.ended tt tt ws)) (fact 𝓤 (c ≡ startPlace)))
 
-  exits : (c : Place) → c ≡ startPlace
+  exits : (c : Bookmark) → c ≡ startPlace
       → ent 𝓤 (⋆ 𝓤 H A (‵ (S.the-row .own c (LL.val S.the-type S′.the-laws c ∷ [])) ∷ (‵ (flft κ q) ⊛ ‵ ftrue) ∷ ‵ (owns (ShrSlice (named 0) κ u8 ∷ [])
       (s, tt) at) ∷ [])) (Post (LL.val (T.the-type α) (T′.the-laws α) (made c)))
   exits c e =
@@ -111,7 +111,7 @@ module _ {M : Type 1} (𝓤 : URA M) (H : Heap 𝓤) (A : Atoms 𝓤) (W : Given
         alloc1 ! (λ l₀. alloc1 ! (λ l₁. alloc1 ! (λ l₂. alloc0 ! $ params1 ! $ pass1 ! (init ! 2 refl (shr-slice-lawful 𝓤 H A W (named 0) κ u8 .typed s (v ∷ []) p .0)) $ pass0 ! $
         use0 W (raw (Start 𝓤 H A mem run .pre to)) asked $
         calls-at ! fm (Start 𝓤 H A mem run) known to (no-more !) (λ u.
-        use1 W (later (some (λ (c : Place). (‵ ftrue ⊛ ‵ (S.the-row .own c (u ∷ []))) ⊛ raw (ensured 𝓤 H A start.ended (start.clauses 𝓤 H A mem run) tt tt tt c))))
+        use1 W (later (some (λ (c : Bookmark). (‵ ftrue ⊛ ‵ (S.the-row .own c (u ∷ []))) ⊛ raw (ensured 𝓤 H A start.ended (start.clauses 𝓤 H A mem run) tt tt tt c))))
         (id⊢ 𝓤 _) $ await ! tt $ pick ! (λ c.
         split ! $ move ! (1 ∷ []) $ use1 W (raw (fact 𝓤 (c ≡ startPlace))) (said c) $ heard ! (c ≡ startPlace) (λ e. split ! $ move ! (1 ∷ []) $
         -- [the place; nothing; room for _2; …; _1; …; room for _0; …; what there is at entry]
@@ -124,7 +124,7 @@ module _ {M : Type 1} (𝓤 : URA M) (H : Heap 𝓤) (A : Atoms 𝓤) (W : Given
         move ! (6 ∷ 7 ∷ []) $ free1 ! $ move ! (4 ∷ 5 ∷ []) $ free1 ! $ move ! (2 ∷ 3 ∷ []) $ free1 ! $ free0 ! $ keep ! (0 ∷ 2 ∷ []) $ by ! (exits c e))))))))
       where
         -- the struct that is made has its type
-        typed : (c : Place) {u : Val} → Is S.the-row c (u ∷ []) → Is (ShrSlice (named 0) κ u8) s (v ∷ [])
+        typed : (c : Bookmark) {u : Val} → Is S.the-row c (u ∷ []) → Is (ShrSlice (named 0) κ u8) s (v ∷ [])
             → Holds (hasTy (T′.mir (named 0)) (LL.val (T.the-type α) (T′.the-laws α) (made c))) × WT (LL.val (T.the-type α) (T′.the-laws α) (made c))
         typed c {u} is p =
             LL.lawful (T.the-type α) (T′.the-laws α) 𝓤 H A W .typed (made c) _

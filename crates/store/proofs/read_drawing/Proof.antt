@@ -1,17 +1,19 @@
--- `read_drawing` meets its contract: each way out is one of `read-refused`, `read-short` and `read-done`. Assumes nothing.
+-- `read_drawing` meets its contract: the count, and then the objects, first into no cells; each way out is one of the three ends.
 use borrow.Author.Needs.{needs}
 use mathlib.Core.Path.{_≡_, sym, ap, _∙_}
-use mathlib.Core.List.{List, _++_}
-use Prim.Native.Nat.{ℕ, _*_}
+use mathlib.Core.List.{List}
+use Prim.Native.Nat.{ℕ, _*_, _≤_}
 use native.Mathlib.Omega.{arith}
 use lib.IntN.{pos}
 use lib.ListN.{length, drop}
+use lib.Seq.{sets}
 use Rattle.sheet.specs.AnswersLaws.{not-refused}
-use Rattle.sheet.specs.Lists.{width}
-use Rattle.store.specs.Stored.{Drawing, readObjects, readDrawing}
-use Rattle.store.specs.TellsLaws.{rest-is}
+use Rattle.sheet.specs.LentLaws.{refused, short, done, sets-front}
+use Rattle.sheet.specs.Lists.{width, countOf}
+use Rattle.store.specs.Stored.{plain, Drawing, readObjects, readDrawing}
+use Rattle.number.specs.ReadAsLaws.{rest-is}
 use Rattle.store.specs.ObjectsLaws.{objects-length, drawing-refused, drawing-counted}
-use Rattle.store.specs.AnswersLaws.{read-refused, read-short, read-done}
+use Rattle.store.specs.AnswersLaws.{read-ends}
 use Rattle.store.proofs.read_drawing.Statement.{statement}
 use Rattle.store.proofs.read_drawing.Tie as tie
 
@@ -20,7 +22,7 @@ counted :
     (c : tie.After-read-objects) →
     let r = c .before .before .before .before .before .read-count .result in
     let bs = c .before .before .before .before .before .before .before .args .bytes .now in
-    readDrawing bs ≡ readObjects (r .value) (drop (r .size) bs)
+    readDrawing bs ≡ readObjects plain (r .value) (drop (r .size) bs)
 counted c =
     drawing-counted (c .before .before .before .before .before .read-count .ensures .0)
     (c .before .before .before .before .struct-told .given .0 .1) (c .before .before .before .if1 .left)
@@ -31,7 +33,7 @@ whole c =
     let r = c .before .before .before .before .before .read-count .result in
     let bs = c .before .before .before .before .before .before .before .args .bytes .now in
     c .read-objects .ensures .0
-    ∙ ap (λ (l : List ℕ). readObjects (r .value) l .refusal) (rest-is (r .size) bs)
+    ∙ ap (λ (l : List ℕ). readObjects plain (r .value) l .refusal) (rest-is (r .size) bs)
     ∙ sym (ap (λ (d : Drawing). d .refusal) (counted c))
 
 fine : (c : tie.Else2) → readDrawing (c .before .before .before .before .before .before .before .before .before .args .bytes .now) .refusal ≡ pos 0
@@ -47,35 +49,27 @@ long c =
     let r = c .before .before .before .before .before .before .before .read-count .result in
     let bs = c .before .before .before .before .before .before .before .before .before .args .bytes .now in
     ap (λ (d : Drawing). length (d .objects)) (counted (c .before .before))
-    ∙ objects-length (r .value) (drop (r .size) bs) (sym (ap (λ (d : Drawing). d .refusal) (counted (c .before .before))) ∙ fine c)
+    ∙ objects-length plain (r .value) (drop (r .size) bs) (sym (ap (λ (d : Drawing). d .refusal) (counted (c .before .before))) ∙ fine c)
 
 returns : tie.Need-returns
 returns c =
     let s = c .before .before .before .before in
     let r = c .before .before .read-count in
     let ok = c .before .struct-told .given .0 .1 in
-    let d = readDrawing (s .args .bytes .now) in
-    read-refused d (s .args .out .now) (r .result .refusal) ok
-    (sym (ap (λ (d : Drawing). d .refusal) (drawing-refused (r .ensures .0) ok (c .if1 .taken)))) (c .if1 .taken)
-
-read-objects-requires : tie.Need-read-objects-requires
-read-objects-requires c κs = c .before .before .before .before .read-count .ensures .1
+    read-ends (readDrawing (s .args .bytes .now)) (s .args .out .now)
+    (refused ok (sym (ap (λ (d : Drawing). d .refusal) (drawing-refused (r .ensures .0) ok (c .if1 .taken)))) (c .if1 .taken))
 
 returns-2 : tie.Need-returns-2
 returns-2 c =
     let s = c .before .before .before .before .before .before .before .before .before in
-    read-refused (readDrawing (s .args .bytes .now)) (s .args .out .now) (c .before .before .read-objects .result) (c .before .before .read-objects .ok)
-    (whole (c .before .before)) (c .if2 .taken)
+    read-ends (readDrawing (s .args .bytes .now)) (s .args .out .now)
+    (refused (c .before .before .read-objects .ok) (whole (c .before .before)) (c .if2 .taken))
 
 returns-3 : tie.Need-returns-3
 returns-3 c =
     let s = c .before .before .before .before .before .before .before .before .before .before in
-    let d = readDrawing (s .args .bytes .now) in
-    let count = c .before .before .before .before .before .before .before .before .read-count .result .value in
-    read-short d (s .args .out .now) count (fine (c .before)) (long (c .before)) (c .if3 .taken)
-
-read-objects-requires-2 : tie.Need-read-objects-requires-2
-read-objects-requires-2 c κs = c .before .before .before .before .before .before .before .before .before .before .read-count .ensures .1
+    read-ends (readDrawing (s .args .bytes .now)) (s .args .out .now)
+    (short (fine (c .before)) (omega (arith, long (c .before), c .if3 .taken)) (sym (long (c .before))))
 
 returns-4 : tie.Need-returns-4
 returns-4 c =
@@ -85,15 +79,15 @@ returns-4 c =
     let bs = s .args .bytes .now in
     let d = readDrawing bs in
     let lent = s .args .out .now in
-    let rest = rest-is (r .size) bs in
-    let sound = ap (λ (l : List ℕ). readObjects (r .value) l .refusal) rest ∙ sym (ap (λ (d : Drawing). d .refusal) (counted (e .before .before))) ∙ fine e in
-    let done = read-done d lent (r .value) (fine e) (long e) (c .before .before .before .before .if3 .left) in (
-      done .0,
-      c .before .read-objects2 .ensures .1 sound (omega (arith, c .before .before .before .before .if3 .left))
-          ∙ ap (λ (l : List ℕ). readObjects (r .value) l .objects ++ drop (r .value * width) lent) rest
-          ∙ sym (ap (λ (d : Drawing). d .objects ++ drop (r .value * width) lent) (counted (e .before .before)))
-          ∙ done .1,
-    )
+    let size = long e in
+    let room : length (d .objects) ≤ length lent = omega (arith, c .before .before .before .before .if3 .left) in
+    let count : r .value ≡ countOf (d .objects) = omega arith in
+    read-ends d lent
+    (done (fine e) room (sym size) count
+    (c .before .read-objects2 .ensures .1
+    ∙ ap (λ (l : List ℕ). sets lent 0 (readObjects plain (r .value) l .objects)) (rest-is (r .size) bs)
+    ∙ sym (ap (λ (d : Drawing). sets lent 0 (d .objects)) (counted (e .before .before)))
+    ∙ sets-front (d .objects) lent room))
 
 pub read-drawing-spec : {M : Type 1} → statement M
 read-drawing-spec =
@@ -105,13 +99,13 @@ read-drawing-spec =
     (λ c. search needs)
     (λ c. search needs)
     (λ c. search needs)
-    read-objects-requires
+    (λ c κs. search needs)
     returns-2
     (λ c. search needs)
     returns-3
     (λ c. search needs)
     (λ c. search needs)
     (λ c. search needs)
-    read-objects-requires-2
+    (λ c κs. search needs)
     (λ c. search needs)
     returns-4)

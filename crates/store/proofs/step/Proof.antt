@@ -1,4 +1,4 @@
--- `step` meets its contract: a reader that has begun goes on; else the count is read first. Assumes nothing.
+-- `step` meets its contract: a reader that has begun goes on; else the count is read first.
 use borrow.Author.Needs.{needs}
 use mathlib.Core.Path.{sym, ap, _∙_}
 use lib.IntN.{ℤ}

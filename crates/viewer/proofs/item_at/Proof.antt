@@ -3,7 +3,7 @@ use borrow.Author.Needs.{needs}
 use mathlib.Core.Path.{_≡_, sym, ap, _∙_}
 use Prim.Native.Nat.{_-_}
 use native.Mathlib.Omega.{arith}
-use Rattle.store.specs.declared.Place.{Place}
+use Rattle.store.specs.declared.Bookmark.{Bookmark}
 use Rattle.store.specs.declared.Stepped.{Stepped}
 use Rattle.store.specs.Reader.{startPlace, callFrom}
 use Rattle.store.specs.StepLaws.{first-call}
@@ -19,7 +19,7 @@ abbrev μ-loop : tie.MeasureT-loop
 μ-loop bytes i place₀ left₀ place left = left
 
 loop-holds : tie.Need-loop-holds Inv-loop μ-loop
-loop-holds c = ap (λ (p : Place). callFrom (c .before .before .args .bytes .now) p (c .before .before .args .i)) (c .start .ensures)
+loop-holds c = ap (λ (p : Bookmark). callFrom (c .before .before .args .bytes .now) p (c .before .before .args .i)) (c .start .ensures)
 
 loop-again : tie.Need-loop-again Inv-loop μ-loop
 loop-again c =

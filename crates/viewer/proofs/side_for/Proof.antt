@@ -3,9 +3,8 @@ use borrow.Author.Needs.{needs}
 use mathlib.Core.Path.{_≡_, sym, ap, _∙_}
 use mathlib.Core.Bool.{false, _||_}
 use mathlib.Core.List.{[], _∷_}
-use Prim.Native.Nat.{ℕ, _<_, _^_}
+use Prim.Native.Nat.{ℕ}
 use native.Mathlib.Omega.{arith}
-use lib.Signed.{mag}
 use lib.IntN.{pos}
 use Rattle.whole.specs.Bound.{fits64, w-is}
 use Rattle.whole.specs.Tests.{out-is}
@@ -16,7 +15,6 @@ use Rattle.sheet.specs.Signs.{sideSign, sideSignRefusal}
 use Rattle.sheet.specs.Answers.{answer}
 use Rattle.sheet.specs.AnswersLaws.{accepted, signed-one}
 use Rattle.sheet.specs.SignsLaws.{side-sign-within}
-use Rattle.kernel.proofs.Handed as handed
 use Rattle.viewer.specs.Calls.{whole}
 use Rattle.viewer.specs.CallsLaws.{place-far, place-near, side-taken}
 use Rattle.viewer.proofs.side_for.Statement.{statement}
@@ -35,26 +33,23 @@ returns c =
 
 module _ (c : tie.After-side-of) where
   abbrev s : tie.Start
-  s = c .before .before .before .before
+  s = c .before .before .before .before .before
 
   abbrev p : Point
   p = whole (s .args .x) (s .args .y)
 
   near : (beyond (s .args .x) || beyond (s .args .y)) ≡ false
-  near = tested (c .before .before) ∙ c .before .if1 .left
+  near = tested (c .before .before .before) ∙ c .before .before .if1 .left
 
   none : sideSignRefusal (s .args .o) p ≡ pos 0
   none = side-taken (s .args .x) (s .args .y) near (s .args .o) (s .pre .accepted)
 
-  -- the point is handed on number by number
   said : c .side-of .result ≡ Sign (sideSign (s .args .o) p)
   said =
-      let nought : mag (pos 0) < 2 ^ 63 = omega arith in
-      let one : mag (pos 1) < 2 ^ 63 = omega arith in
       signed-one (c .side-of .result) (Sign (sideSign (s .args .o) p))
       (c .side-of .ensures
       ∙ ap (λ (q : Point). answer (sideSignRefusal (s .args .o) q) (sideSign (s .args .o) q ∷ []))
-      (handed.point p nought (s .fits .x .sfits) nought (s .fits .y .sfits) one)
+      (c .before .given .ensures ∙ (λ i. whole (out-is (s .fits .x) i) (out-is (s .fits .y) i)))
       ∙ accepted (sideSign (s .args .o) p ∷ []) none)
 
 never : (c : tie.After-known-told2) → ⊥
@@ -87,6 +82,7 @@ side-for-spec =
     (λ c κs. search needs)
     (λ c. search needs)
     returns
+    (λ c κs. search needs)
     (λ c κs. search needs)
     (λ c. search needs)
     (λ c. search needs)

@@ -1,3 +1,4 @@
+-- `silvanelga_check` meets its contract: it is what `check_drawing` answers.
 use Rattle.whole.specs.Tests.{gave}
 use borrow.Author.Needs.{needs}
 use Rattle.viewer.proofs.silvanelga_check.Statement.{statement}

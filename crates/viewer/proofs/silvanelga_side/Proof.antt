@@ -11,7 +11,8 @@ use lib.Signed.{nonNeg}
 use mir.Syntax.{w64}
 use mir.Val.{Fits}
 use denote.Enum.Declared.{tagOf}
-use Rattle.whole.specs.Bound.{Within, fits64, w-pos, w-add, w-is}
+use Rattle.whole.specs.Within.{Within}
+use Rattle.whole.specs.Bound.{fits64, w-pos, w-add, w-is}
 use Rattle.whole.specs.Tests.{out, out-is, out-ok, eq-left, gave}
 use Rattle.sheet.specs.AnswersLaws.{not-refused}
 use Rattle.sheet.specs.declared.Object.{Object}

@@ -1,3 +1,4 @@
+-- `least` meets its contract: each branch returns one of the two, and its test says that this one is not above the other.
 use mathlib.Core.Path.{refl}
 use mathlib.Core.Logic.{inl, inr}
 use native.Mathlib.Omega.{arith}

@@ -1,8 +1,10 @@
+-- `circle_of` meets its contract: of a given fourth the form of four given points has the sign; any other is on the frame, and that form has it.
 use mathlib.Core.Path.{sym, _∙_}
 use Rattle.whole.specs.Sign.{sgn}
 use Rattle.whole.specs.Tests.{gave}
 use Rattle.whole.specs.Flat.{none, _also_, within-out}
-use Rattle.sheet.specs.PointsLaws.{Frame, frame-sizes}
+use Rattle.sheet.specs.PointFacts.{Frame}
+use Rattle.sheet.specs.PointsLaws.{frame-sizes}
 use Rattle.sheet.specs.CircleLaws.{Given, given-is, given-small, not-given}
 use Rattle.sheet.specs.Angles.{givenForm, frameForm, by-given, by-frame}
 use Rattle.kernel.proofs.Ahead.{place}

@@ -1,6 +1,7 @@
+-- `circle_refusal` meets its contract: its four calls of `or_else` are the definition's, at the refusals of the points and at 21.
 use mathlib.Core.Path.{_∙_, ap₂}
 use Rattle.whole.specs.Tests.{gave}
-use Rattle.sheet.specs.Signs.{orElse}
+use Rattle.whole.specs.Choice.{orElse}
 use Rattle.sheet.specs.Circle.{circleRefusal}
 use borrow.Author.Needs.{needs}
 use Rattle.kernel.proofs.circle.circle_refusal.Statement.{statement}

@@ -1,20 +1,21 @@
+-- `frame_circle` meets its contract: products of six coordinates fit; `lead` takes the turn, and then the opposite of two signs' product.
 use mathlib.Core.Path.{_≡_, sym, _∙_, ap, ap₂}
 use mathlib.Core.List.{[], _∷_}
 use lib.IntN.{ℤ, negℤ, _*ℤ_, +ℤ-idl}
 use Rattle.whole.specs.Sign.{sgn}
 use Rattle.whole.specs.SignLaws.{sgn-neg-eq, sgn-mul, sgn-sgn}
-use Rattle.whole.specs.Poly.{first}
-use Rattle.whole.specs.PolyLaws.{first-sgn}
+use Rattle.whole.specs.Choice.{orElse}
+use Rattle.whole.specs.ChoiceLaws.{or-sgn}
 use Rattle.whole.specs.Bound.{w-is, w-sgn}
 use Rattle.whole.specs.Ring.{var, lit, _⊖_, _⊗_}
 use Rattle.whole.specs.Flat.{All, none, _also_, need, gives, held, back}
 use Rattle.sheet.specs.declared.Point.{Point}
+use Rattle.sheet.specs.Figure.{vec}
 use Rattle.sheet.specs.Points.{given}
 use Rattle.sheet.specs.Signs.{turn}
 use Rattle.sheet.specs.Expansions.{pair-side-is}
 use Rattle.sheet.specs.Angles.{turns, inner}
 use Rattle.kernel.specs.Forms.{pairSide}
-use Rattle.kernel.specs.Pieces.{at}
 use Rattle.kernel.proofs.Coordinates.{coordinate-out, lead-is}
 use Rattle.kernel.proofs.Seen.{axE, ayE, bxE, byE, turnE, innerE}
 use borrow.Author.Needs.{needs}
@@ -62,7 +63,7 @@ pair-side-requires c κs =
 
 -- two signs
 parts : (c : tie.After-pair-side) → All (1 ∷ 1 ∷ []) (c .before .sign .result ∷ c .pair-side .result ∷ [])
-parts c = w-is (c .before .sign .ensures) (w-sgn _) also w-is (c .pair-side .ensures ∙ sym (first-sgn _ _)) (w-sgn _) also none
+parts c = w-is (c .before .sign .ensures) (w-sgn _) also w-is (c .pair-side .ensures ∙ sym (or-sgn _ _)) (w-sgn _) also none
 
 -- the opposite of a product of signs is a sign
 is-sign : (j t : ℤ) → sgn t ≡ t → sgn (negℤ (sgn j *ℤ t)) ≡ negℤ (sgn j *ℤ t)
@@ -82,9 +83,9 @@ returns c =
     let b = s .pre .0 .near in
     let x = s .pre .1 in
     let y = s .pre .2 in
-    let p = at (a .px) (a .py) in
-    let q = at (a .qx) (a .qy) in
-    let r = at (a .sx) (a .sy) in
+    let p = vec (a .px) (a .py) in
+    let q = vec (a .qx) (a .qy) in
+    let r = vec (a .sx) (a .sy) in
     let u : Point = record { mx = a .mx; nx = a .nx; my = a .my; ny = a .ny; w = a .w } in
     let side = pair-side-is q r u in
     let j = d .before .sign .ensures ∙ ap sgn (gives b innerE tt) in
@@ -96,7 +97,7 @@ returns c =
     in
     lead-is (c .lead .ok) (c .lead .ensures) (gives b turnE tt)
     (gives (parts d) (lit 0 ⊖ var 0 ⊗ var 1) tt ∙ +ℤ-idl (negℤ (d .before .sign .result *ℤ d .pair-side .result)) ∙ (λ i. negℤ (j i *ℤ t i)))
-    ∙ ap (first (sgn (turns p q r))) (is-sign (inner p q r) (turn (given q) (given r) u) (ap sgn side ∙ first-sgn _ _ ∙ sym side))
+    ∙ ap (orElse (sgn (turns p q r))) (is-sign (inner p q r) (turn (given q) (given r) u) (ap sgn side ∙ or-sgn _ _ ∙ sym side))
 
 pub frame-circle-spec : {M : Type 1} → statement M
 frame-circle-spec =

@@ -1,3 +1,4 @@
+-- `given_circle` meets its contract: every product of differences of eight coordinates fits, and its sum is the form of four given points.
 use mathlib.Core.Path.{_∙_, ap}
 use Rattle.whole.specs.Sign.{sgn}
 use Rattle.whole.specs.Ring.{Expr, var, _⊕_, _⊖_, _⊗_}

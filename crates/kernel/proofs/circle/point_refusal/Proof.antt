@@ -1,3 +1,4 @@
+-- `point_refusal` meets its contract: a given point is a point; of the others `check_point` says it.
 use mathlib.Core.Path.{sym, _∙_}
 use Rattle.whole.specs.Tests.{gave}
 use Rattle.sheet.specs.CircleLaws.{given-taken}

@@ -1,3 +1,4 @@
+-- `side_of_circle` meets its contract: a refusal that is not 0 is answered; where it is 0 the points are what `circle_of` asks.
 use mathlib.Core.Path.{_≡_, sym, _∙_}
 use mathlib.Core.List.{[], _∷_}
 use lib.IntN.{pos}

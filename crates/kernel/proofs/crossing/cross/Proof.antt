@@ -1,10 +1,11 @@
-use mathlib.Core.Path.{_≡_, sym, _∙_, subst}
+-- `cross` meets its contract: refusals that are not 0 are answered in turn; two accepted objects have the figures that `meet` crosses.
+use mathlib.Core.Path.{_≡_, sym, _∙_}
 use Rattle.whole.specs.Tests.{fits-ok}
 use Rattle.sheet.specs.Refusal.{Accepted}
 use Rattle.sheet.specs.AnswersLaws.{accepted, says-refused, refused-first, refused-next, not-refused}
-use Rattle.sheet.specs.Crossing.{crossingOf, crossingRefusal}
+use Rattle.sheet.specs.Crossing.{meeting, crossingOf, crossingRefusal}
 use Rattle.sheet.specs.AcceptsLaws.{taken-cross}
-use Rattle.kernel.proofs.Handed as handed
+use Rattle.kernel.proofs.Handed.{figure-told, numbers-told}
 use Rattle.kernel.proofs.Eight.{say}
 use borrow.Author.Needs.{needs}
 use Rattle.kernel.proofs.crossing.cross.Statement.{statement}
@@ -25,11 +26,11 @@ second-taken c =
 abbrev tested : tie.After-struct-told10 → tie.Else2
 tested c = c .before .before .before .before .before .before .before .before .before .before
 
-first-told : (c : tie.After-struct-told10) → let o = tested c .before .before .before .before .args .a in handed.objectOut o ≡ o
-first-told c = handed.object-told _ (c .before .before .before .before .before .before .before .before .before .struct-told .given)
+abbrev start : tie.After-struct-told10 → tie.Start
+start c = tested c .before .before .before .before
 
-second-told : (c : tie.After-struct-told10) → let o = tested c .before .before .before .before .args .b in handed.objectOut o ≡ o
-second-told c = handed.object-told _ (c .before .before .before .before .struct-told6 .given)
+abbrev told : tie.After-struct-told10 → tie.After-struct-told
+told c = c .before .before .before .before .before .before .before .before .before
 
 returns : tie.Need-returns
 unfolding crossingRefusal
@@ -50,14 +51,19 @@ returns-2 c =
 
 meet-requires : tie.Need-meet-requires
 meet-requires c κs =
-    let e = tested c in
-    (subst Accepted (sym (first-told c)) (first-taken (e .before .before)), subst Accepted (sym (second-told c)) (second-taken e))
+    let e = tested c in (
+      numbers-told (start c .args .a) (told c .struct-told .given) (first-taken (e .before .before)),
+      numbers-told (start c .args .b) (c .before .before .before .before .struct-told6 .given) (second-taken e),
+    )
 
 returns-3 : tie.Need-returns-3
+unfolding crossingOf
 returns-3 c =
     let d = c .before in
     let e = tested d in
-    c .meet .ensures ∙ (λ i. say (crossingOf (first-told d i) (second-told d i)))
+    let f = figure-told (start d .args .a) (told d .struct-told .given) in
+    let g = figure-told (start d .args .b) (d .before .before .before .before .struct-told6 .given) in
+    c .meet .ensures ∙ (λ i. say (meeting (f i) (g i)))
     ∙ sym (accepted _ (taken-cross (first-taken (e .before .before)) (second-taken e)))
 
 pub cross-spec : {M : Type 1} → statement M

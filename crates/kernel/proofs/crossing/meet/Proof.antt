@@ -1,54 +1,46 @@
-use mathlib.Core.Path.{_≡_, sym, _∙_, ap, subst}
+-- `meet` meets its contract: what a side or two stretches share of numbers that are handed on is what the two figures share.
+use mathlib.Core.Path.{sym, _∙_, ap}
 use Rattle.whole.specs.Flat.{none, _also_}
-use Rattle.whole.specs.Tests.{out, out-is, eq-left, lit-taken}
-use Rattle.sheet.specs.declared.Object.{Object}
-use Rattle.sheet.specs.Figure.{sideOf, figure}
-use Rattle.sheet.specs.Refusal.{Accepted}
-use Rattle.sheet.specs.Crossing.{pieces, withSide}
-use Rattle.kernel.specs.Kinds.{accepted-pair}
-use Rattle.kernel.specs.Pieces.{object, side-first, side-second, crossing-pieces}
-use Rattle.kernel.proofs.Handed as handed
-use Rattle.kernel.proofs.Eight.{say, near-out, piece-out}
+use Rattle.whole.specs.Tests.{out-is, eq-left, lit-taken}
+use Rattle.sheet.specs.Figure.{sideOf, figureOf}
+use Rattle.sheet.specs.Crossing.{stretches, withSide}
+use Rattle.kernel.specs.Kinds.{a-pair}
+use Rattle.kernel.specs.Stretches.{side-first, side-second, both-stretches}
+use Rattle.kernel.proofs.Handed.{by-five, numbers-out}
+use Rattle.kernel.proofs.Eight.{say, near-out, stretch-out}
 use Rattle.kernel.proofs.crossing.meet.Statement.{statement}
 use Rattle.kernel.proofs.crossing.meet.Tie as tie
 
-abbrev a : tie.Start → Object
-a s = object (s .args .ka) (s .args .px) (s .args .py) (s .args .qx) (s .args .qy)
-
-abbrev b : tie.Start → Object
-b s = object (s .args .kb) (s .args .rx) (s .args .ry) (s .args .sx) (s .args .sy)
-
--- the objects as they are handed on
-a-out : (s : tie.Start) → object (out (s .args .ka)) (out (s .args .px)) (out (s .args .py)) (out (s .args .qx)) (out (s .args .qy)) ≡ a s
-a-out s = handed.object (a s) (s .fits .ka .sfits) (s .fits .px .sfits) (s .fits .py .sfits) (s .fits .qx .sfits) (s .fits .qy .sfits)
-
-b-out : (s : tie.Start) → object (out (s .args .kb)) (out (s .args .rx)) (out (s .args .ry)) (out (s .args .sx)) (out (s .args .sy)) ≡ b s
-b-out s = handed.object (b s) (s .fits .kb .sfits) (s .fits .rx .sfits) (s .fits .ry .sfits) (s .fits .sx .sfits) (s .fits .sy .sfits)
-
 with-side-requires : tie.Need-with-side-requires
-with-side-requires c κs = let s = c .before in subst Accepted (sym (b-out s)) (s .pre .1)
+with-side-requires c κs =
+    let s = c .before in
+    numbers-out (s .fits .kb) (s .fits .rx) (s .fits .ry) (s .fits .sx) (s .fits .sy) (s .pre .1)
 
 returns : tie.Need-returns
 returns c =
     let s = c .before .before in
-    c .with-side .ensures ∙ (λ i. say (withSide (sideOf (out-is (s .fits .px) i)) (figure (b-out s i))))
-    ∙ sym (ap say (side-first (a s) (b s) (lit-taken 4 tt (s .fits .ka) (c .before .if1 .taken))))
+    let b = by-five (s .fits .kb) (s .fits .rx) (s .fits .ry) (s .fits .sx) (s .fits .sy) figureOf in
+    c .with-side .ensures ∙ (λ i. say (withSide (sideOf (out-is (s .fits .px) i)) (b i)))
+    ∙ sym (ap say (side-first (s .pre .0) (s .pre .1) (lit-taken 4 tt (s .fits .ka) (c .before .if1 .taken))))
 
 with-side-requires-2 : tie.Need-with-side-requires-2
-with-side-requires-2 c κs = let s = c .before .before in subst Accepted (sym (a-out s)) (s .pre .0)
+with-side-requires-2 c κs =
+    let s = c .before .before in
+    numbers-out (s .fits .ka) (s .fits .px) (s .fits .py) (s .fits .qx) (s .fits .qy) (s .pre .0)
 
 returns-2 : tie.Need-returns-2
 returns-2 c =
     let s = c .before .before .before in
-    c .with-side2 .ensures ∙ (λ i. say (withSide (sideOf (out-is (s .fits .rx) i)) (figure (a-out s i))))
-    ∙ sym (ap say (side-second (a s) (b s) (s .pre .0) (eq-left (c .before .before .if1 .left))
+    let a = by-five (s .fits .ka) (s .fits .px) (s .fits .py) (s .fits .qx) (s .fits .qy) figureOf in
+    c .with-side2 .ensures ∙ (λ i. say (withSide (sideOf (out-is (s .fits .rx) i)) (a i)))
+    ∙ sym (ap say (side-second (s .pre .0) (s .pre .1) (eq-left (c .before .before .if1 .left))
     (lit-taken 4 tt (s .fits .kb) (c .before .if2 .taken))))
 
-cross-pieces-requires : tie.Need-cross-pieces-requires
-cross-pieces-requires c κs =
+cross-stretches-requires : tie.Need-cross-stretches-requires
+cross-stretches-requires c κs =
     let s = c .before .before in
-    let one = accepted-pair (a s) (s .pre .0) (eq-left (c .before .if1 .left)) in
-    let two = accepted-pair (b s) (s .pre .1) (eq-left (c .if2 .left)) in
+    let one = a-pair (s .pre .0) (eq-left (c .before .if1 .left)) in
+    let two = a-pair (s .pre .1) (eq-left (c .if2 .left)) in
     near-out (record {
       near =
           one .small-p .in-x also one .small-p .in-y also one .small-q .in-x also one .small-q .in-y
@@ -58,10 +50,10 @@ cross-pieces-requires c κs =
 returns-3 : tie.Need-returns-3
 returns-3 c =
     let s = c .before .before .before in
-    let A = piece-out (s .fits .ka) (s .fits .px) (s .fits .py) (s .fits .qx) (s .fits .qy) in
-    let B = piece-out (s .fits .kb) (s .fits .rx) (s .fits .ry) (s .fits .sx) (s .fits .sy) in
-    c .cross-pieces .ensures ∙ (λ i. say (pieces (A i) (B i)))
-    ∙ sym (ap say (crossing-pieces (a s) (b s) (s .pre .0) (eq-left (c .before .before .if1 .left)) (s .pre .1) (eq-left (c .before .if2 .left))))
+    let A = stretch-out (s .fits .ka) (s .fits .px) (s .fits .py) (s .fits .qx) (s .fits .qy) in
+    let B = stretch-out (s .fits .kb) (s .fits .rx) (s .fits .ry) (s .fits .sx) (s .fits .sy) in
+    c .cross-stretches .ensures ∙ (λ i. say (stretches (A i) (B i)))
+    ∙ sym (ap say (both-stretches (s .pre .0) (s .pre .1) (eq-left (c .before .before .if1 .left)) (eq-left (c .before .if2 .left))))
 
 pub meet-spec : {M : Type 1} → statement M
 meet-spec =
@@ -71,5 +63,5 @@ meet-spec =
     returns
     with-side-requires-2
     returns-2
-    cross-pieces-requires
+    cross-stretches-requires
     returns-3)

@@ -1,3 +1,4 @@
+-- `divide` meets its contract: the divisor is above 0, and each quotient is the number's; where it is 1 that is the number itself.
 use mathlib.Core.Path.{_≡_, sym, _∙_, ap, ap₂, subst}
 use mathlib.Core.List.{[], _∷_}
 use Prim.Native.Nat.{ℕ, _<_, _≤_}
@@ -8,7 +9,7 @@ use mir.Val.{SFits}
 use Rattle.whole.specs.Divisor.{gcdOf}
 use Rattle.whole.specs.DivisorLaws.{quot-one}
 use Rattle.whole.specs.Flat.{back, within-out}
-use Rattle.whole.specs.Bound.{Within}
+use Rattle.whole.specs.Within.{Within}
 use Rattle.whole.specs.Tests.{out, out-is, gave}
 use Rattle.sheet.specs.Points.{divided}
 use Rattle.kernel.specs.Bounds.{Part}

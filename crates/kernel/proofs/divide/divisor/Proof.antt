@@ -1,3 +1,4 @@
+-- `divisor` meets its contract: folding over sizes that are changed over on the way finds the same divisor (`gcdOf-fold`).
 use Rattle.whole.specs.DivisorLaws.{gcdOf-fold}
 use Rattle.whole.specs.Tests.{out-is}
 use borrow.Author.Needs.{needs}

@@ -1,3 +1,4 @@
+-- `part` meets its contract: the divisor fits i64 and is not 0, and no quotient is larger than its number.
 use mathlib.Core.Path.{_≡_, sym, _∙_, ap₂, subst}
 use native.Mathlib.Omega.{arith}
 use lib.IntN.{pos}

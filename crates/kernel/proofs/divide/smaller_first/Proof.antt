@@ -1,3 +1,4 @@
+-- `smaller_first` meets its contract: it hands back the same two, changed over or not.
 use mathlib.Core.Path.{refl}
 use mathlib.Core.Logic.{inl, inr}
 use Rattle.kernel.proofs.divide.smaller_first.Statement.{statement}

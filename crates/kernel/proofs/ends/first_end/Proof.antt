@@ -1,31 +1,33 @@
+-- `first_end` meets its contract: a side begins at its corner, a line at the far end from q to p, and what is neither, at p.
 use mathlib.Core.Path.{sym, _∙_, ap}
 use lib.IntN.{ℤ}
 use Rattle.whole.specs.Flat.{need}
 use Rattle.whole.specs.Tests.{out-is, eq-left, lit-taken}
-use Rattle.sheet.specs.declared.Object.{Object}
-use Rattle.sheet.specs.Figure.{sideOf, first, second}
+use Rattle.sheet.specs.Figure.{Vec, vec, sideOf}
 use Rattle.sheet.specs.RefusalLaws.{Proper}
 use Rattle.sheet.specs.Points.{given}
 use Rattle.sheet.specs.Ends.{farEnd, begins}
-use Rattle.kernel.specs.Kinds.{accepted-pair, first-side, first-line, first-given}
-use Rattle.kernel.specs.Pieces.{object}
+use Rattle.kernel.specs.Kinds.{a-pair, first-side, first-line, first-given}
 use Rattle.kernel.proofs.Eight.{dxE, dyE}
 use Rattle.kernel.proofs.Ahead.{swapped, reversed, place, pair, way, ahead}
 use borrow.Author.Needs.{needs}
 use Rattle.kernel.proofs.ends.first_end.Statement.{statement}
 use Rattle.kernel.proofs.ends.first_end.Tie as tie
 
-abbrev o : tie.Start → Object
-o s = object (s .args .kind) (s .args .px) (s .args .py) (s .args .qx) (s .args .qy)
+abbrev p : tie.Start → Vec
+p s = vec (s .args .px) (s .args .py)
 
-proper : (c : tie.Then2) → Proper (first (o (c .before .before))) (second (o (c .before .before)))
-proper c = accepted-pair (o (c .before .before)) (c .before .before .pre) (eq-left (c .before .if1 .left))
+abbrev q : tie.Start → Vec
+q s = vec (s .args .qx) (s .args .qy)
+
+proper : (c : tie.Then2) → Proper (p (c .before .before)) (q (c .before .before))
+proper c = a-pair (c .before .before .pre) (eq-left (c .before .if1 .left))
 
 returns : tie.Need-returns
 returns c =
     let s = c .before .before in
     let four = lit-taken 4 tt (s .fits .kind) (c .before .if1 .taken) in
-    c .side-begins .ensures ∙ ap (λ (n : ℤ). begins (sideOf n)) (out-is (s .fits .px)) ∙ sym (first-side (o s) four)
+    c .side-begins .ensures ∙ ap (λ (n : ℤ). begins (sideOf n)) (out-is (s .fits .px)) ∙ sym (first-side (s .pre) four)
 
 -- from q to p
 sub-back : tie.Need-sub-back
@@ -43,15 +45,15 @@ returns-2 c =
     let h = proper (c .before) in
     let three = lit-taken 3 tt (s .fits .kind) (c .before .if2 .taken) in
     c .far-end .ensures
-    ∙ (λ i. farEnd (place (h .small-p) i) ((way (swapped h) ∙ reversed (first (o s)) (second (o s))) i))
-    ∙ sym (first-line (o s) three)
+    ∙ (λ i. farEnd (place (h .small-p) i) ((way (swapped h) ∙ reversed (p s) (q s)) i))
+    ∙ sym (first-line (s .pre) three)
 
 returns-3 : tie.Need-returns-3
 returns-3 c =
     let s = c .before .before .before in
-    c .given-point .ensures
+    c .given .ensures
     ∙ (λ i. given (record { x = out-is (s .fits .px) i; y = out-is (s .fits .py) i }))
-    ∙ sym (first-given (o s) (s .pre) (eq-left (c .before .before .if1 .left)) (eq-left (c .before .if2 .left)))
+    ∙ sym (first-given (s .pre) (eq-left (c .before .before .if1 .left)) (eq-left (c .before .if2 .left)))
 
 pub first-end-spec : {M : Type 1} → statement M
 first-end-spec =

@@ -1,3 +1,4 @@
+-- `last_end` meets its contract: a side ends where the next one begins, a segment at q, and what is neither, at the far end from p to q.
 use mathlib.Core.Path.{_≡_, refl, sym, _∙_, ap, subst}
 use native.Mathlib.Omega.{arith}
 use lib.IntN.{ℤ, pos, _+ℤ_}
@@ -7,24 +8,19 @@ use mir.Val.{SFits}
 use Rattle.whole.specs.Bound.{fits64, w-pos}
 use Rattle.whole.specs.Flat.{need}
 use Rattle.whole.specs.Tests.{out, out-is, eq-left, lit-taken}
-use Rattle.sheet.specs.declared.Object.{Object}
-use Rattle.sheet.specs.Figure.{Side, left, bottom, right, top, sideNumber, sideOf, first, second}
+use Rattle.sheet.specs.Figure.{vec, Side, left, bottom, right, top, sideNumber, sideOf}
 use Rattle.sheet.specs.RefusalLaws.{Proper}
 use Rattle.sheet.specs.Points.{given}
 use Rattle.sheet.specs.Ends.{farEnd, begins, nextSide}
-use Rattle.kernel.specs.Kinds.{accepted-pair, accepted-side, last-side, last-given, last-far}
-use Rattle.kernel.specs.Pieces.{object}
+use Rattle.kernel.specs.Kinds.{a-pair, which-side, last-side, last-given, last-far}
 use Rattle.kernel.proofs.Eight.{dxE, dyE}
 use Rattle.kernel.proofs.Ahead.{place, pair, way, ahead}
 use borrow.Author.Needs.{needs}
 use Rattle.kernel.proofs.ends.last_end.Statement.{statement}
 use Rattle.kernel.proofs.ends.last_end.Tie as tie
 
-abbrev o : tie.Start → Object
-o s = object (s .args .kind) (s .args .px) (s .args .py) (s .args .qx) (s .args .qy)
-
-proper : (c : tie.Else2) → Proper (first (o (c .before .before))) (second (o (c .before .before)))
-proper c = accepted-pair (o (c .before .before)) (c .before .before .pre) (eq-left (c .before .if1 .left))
+proper : (c : tie.Else2) → let s = c .before .before in Proper (vec (s .args .px) (s .args .py)) (vec (s .args .qx) (s .args .qy))
+proper c = a-pair (c .before .before .pre) (eq-left (c .before .if1 .left))
 
 -- the number of the next side as the code finds it
 record Next (n : ℤ) : Type 0 where
@@ -42,7 +38,7 @@ next top = record { quotient = fits64 (w-pos 1) tt; sum = fits64 (w-pos 1) tt; i
 next-here : (c : tie.Then1) → Next (c .before .args .px)
 next-here c =
     let s = c .before in
-    let a = accepted-side (o s) (s .pre) (lit-taken 4 tt (s .fits .kind) (c .if1 .taken)) in
+    let a = which-side (s .pre) (lit-taken 4 tt (s .fits .kind) (c .if1 .taken)) in
     subst Next (sym (a .number)) (next (a .which))
 
 rem-next : tie.Need-rem-next
@@ -55,14 +51,14 @@ returns : tie.Need-returns
 returns c =
     let s = c .before .before in
     let four = lit-taken 4 tt (s .fits .kind) (c .before .if1 .taken) in
-    c .side-begins .ensures ∙ ap begins (next-here (c .before) .is-next) ∙ sym (last-side (o s) four)
+    c .side-begins .ensures ∙ ap begins (next-here (c .before) .is-next) ∙ sym (last-side (s .pre) four)
 
 returns-2 : tie.Need-returns-2
 returns-2 c =
     let s = c .before .before .before in
     let one = lit-taken 1 tt (s .fits .kind) (c .before .if2 .taken) in
-    c .given-point .ensures
-    ∙ (λ i. given (record { x = out-is (s .fits .qx) i; y = out-is (s .fits .qy) i })) ∙ sym (last-given (o s) one)
+    c .given .ensures
+    ∙ (λ i. given (record { x = out-is (s .fits .qx) i; y = out-is (s .fits .qy) i })) ∙ sym (last-given (s .pre) one)
 
 sub-dx : tie.Need-sub-dx
 sub-dx c = need (pair (proper c)) dxE tt
@@ -79,7 +75,7 @@ returns-3 c =
     let h = proper (c .before) in
     c .far-end .ensures
     ∙ (λ i. farEnd (place (h .small-p) i) (way h i))
-    ∙ sym (last-far (o s) (s .pre) (eq-left (c .before .before .if1 .left)) (eq-left (c .before .if2 .left)))
+    ∙ sym (last-far (s .pre) (eq-left (c .before .before .if1 .left)) (eq-left (c .before .if2 .left)))
 
 pub last-end-spec : {M : Type 1} → statement M
 last-end-spec =

@@ -1,3 +1,4 @@
+-- `abs` meets its contract: a number below 0 is turned round, and -z fits since z is within 4,000.
 use mathlib.Core.Path.{_∙_}
 use lib.IntN.{negℤ, +ℤ-idl}
 use Rattle.whole.specs.Ring.{var, lit, _⊖_}

@@ -1,3 +1,4 @@
+-- `far_end` meets its contract: k is the moment; the test says which form the far end has and that its w is above 0, and that form is divided.
 use mathlib.Core.Path.{sym, _∙_, ap, subst}
 use lib.IntN.{ℤ, pos}
 use lib.Signed.{_<ℤ_}

@@ -1,3 +1,4 @@
+-- `flat_end` meets its contract: dx is sx |dx|, and the five numbers are within what `divide` asks.
 use mathlib.Core.Path.{_≡_, sym, _∙_, ap, subst}
 use mathlib.Core.List.{[], _∷_}
 use lib.IntN.{ℤ, pos, _*ℤ_}

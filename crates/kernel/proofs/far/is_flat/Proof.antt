@@ -1,3 +1,4 @@
+-- `is_flat` meets its contract: sizes and signs are those of dx and dy, and their product with k fits.
 use mathlib.Core.Path.{_≡_, _∙_, ap, ap₂}
 use mathlib.Core.Bool.{_||_, _&&_}
 use mathlib.Core.List.{[], _∷_}

@@ -1,3 +1,4 @@
+-- `steep_end` meets its contract: dy is sy |dy|, and the five numbers are within what `divide` asks.
 use mathlib.Core.Path.{_≡_, sym, _∙_, ap, subst}
 use mathlib.Core.List.{[], _∷_}
 use lib.IntN.{ℤ, pos, negℤ, _*ℤ_, +ℤ-idl}

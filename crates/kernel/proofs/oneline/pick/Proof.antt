@@ -1,3 +1,4 @@
+-- `pick` meets its contract: it is `cond`, case by case.
 use Rattle.whole.specs.Tests.{out-is}
 use Rattle.kernel.proofs.oneline.pick.Statement.{statement}
 use Rattle.kernel.proofs.oneline.pick.Tie as tie

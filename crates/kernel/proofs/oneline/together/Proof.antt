@@ -1,3 +1,4 @@
+-- `together` meets its contract: the kinds pick the limits of the two stretches; `alike` says which of the second one's is a start.
 use mathlib.Core.Path.{_≡_, refl, _∙_, ap}
 use mathlib.Core.Bool.{cond}
 use Prim.Native.Nat.{ℕ, _^_}
@@ -10,8 +11,8 @@ use Rattle.whole.specs.Flat.{need, gives, lt-gives}
 use Rattle.whole.specs.Flag.{eqZ}
 use Rattle.whole.specs.Tests.{out, out-is, lit-flag, Fit, gave}
 use Rattle.sheet.specs.Crossing.{dot}
-use Rattle.sheet.specs.Figure.{Vec, _⇀_}
-use Rattle.kernel.specs.Pieces.{at, far, together-alike, together-opposed}
+use Rattle.sheet.specs.Figure.{Vec, vec, _⇀_}
+use Rattle.kernel.specs.Stretches.{far, together-alike, together-opposed}
 use Rattle.kernel.proofs.Eight.{dxE, dyE, fxE, fyE, say}
 use borrow.Author.Needs.{needs}
 use Rattle.kernel.proofs.oneline.together.Statement.{statement}
@@ -25,10 +26,10 @@ abbrev alikeE : Expr
 alikeE = dxE ⊗ fxE ⊕ dyE ⊗ fyE
 
 abbrev p : tie.Start → Vec
-p s = at (s .args .px) (s .args .py)
+p s = vec (s .args .px) (s .args .py)
 
 abbrev q : tie.Start → Vec
-q s = at (s .args .qx) (s .args .qy)
+q s = vec (s .args .qx) (s .args .qy)
 
 -- a limit that the kind picks
 limit : (n : ℕ) → T (ltb n (2 ^ 63)) → {kind r x y u v : ℤ} → SFits w64 kind → Fit r
@@ -114,10 +115,10 @@ returns c =
     ∙ ap say (together-alike
     (s .args .ka) (s .args .px) (s .args .py) (s .args .qx) (s .args .qy)
     (s .args .kb) (s .args .rx) (s .args .ry) (s .args .sx) (s .args .sy) (s .pre)
-    (lo (f .before .before)) (hi (f .before)) (λ i. at (out-is (s .fits .px) i) (out-is (s .fits .py) i))
+    (lo (f .before .before)) (hi (f .before)) (λ i. vec (out-is (s .fits .px) i) (out-is (s .fits .py) i))
     (limit 3 tt (s .fits .kb) (one .ok) (one .ensures) refl (gives b (atE 4 5) tt))
     (limit 1 tt (s .fits .kb) (two .ok) (two .ensures) (gives b (atE 6 7) tt) refl)
-    (λ i. at (out-is (s .fits .rx) i) (out-is (s .fits .ry) i))
+    (λ i. vec (out-is (s .fits .rx) i) (out-is (s .fits .ry) i))
     (lt-gives b (lit 0) alikeE tt tt (f .if1 .taken)))
 
 returns-2 : tie.Need-returns-2
@@ -131,10 +132,10 @@ returns-2 c =
     ∙ ap say (together-opposed
     (s .args .ka) (s .args .px) (s .args .py) (s .args .qx) (s .args .qy)
     (s .args .kb) (s .args .rx) (s .args .ry) (s .args .sx) (s .args .sy) (s .pre)
-    (lo (f .before .before)) (hi (f .before)) (λ i. at (out-is (s .fits .px) i) (out-is (s .fits .py) i))
+    (lo (f .before .before)) (hi (f .before)) (λ i. vec (out-is (s .fits .px) i) (out-is (s .fits .py) i))
     (limit 1 tt (s .fits .kb) (one .ok) (one .ensures) (gives b (atE 6 7) tt) refl)
     (limit 3 tt (s .fits .kb) (two .ok) (two .ensures) refl (gives b (atE 4 5) tt))
-    (λ i. at (out-is (s .fits .sx) i) (out-is (s .fits .sy) i))
+    (λ i. vec (out-is (s .fits .sx) i) (out-is (s .fits .sy) i))
     (lt-gives b (lit 0) alikeE tt tt (f .if1 .left)))
 
 pub together-spec : {M : Type 1} → statement M

@@ -1,3 +1,4 @@
+-- `check_given` meets its contract: the five numbers that it hands on are the point's.
 use mathlib.Core.Path.{_∙_, ap}
 use Rattle.sheet.specs.Circle.{isGiven}
 use Rattle.kernel.proofs.Handed as handed

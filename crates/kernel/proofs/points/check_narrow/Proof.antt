@@ -1,3 +1,4 @@
+-- `check_narrow` meets its contract: the five numbers that it hands on are the point's.
 use mathlib.Core.Path.{_∙_, ap}
 use Rattle.sheet.specs.Points.{narrow}
 use Rattle.kernel.proofs.Handed as handed

@@ -1,3 +1,4 @@
+-- `check_point` meets its contract: the five numbers that it hands on are the point's, and 0 or 5 is answered by the definition's test.
 use mathlib.Core.Path.{_≡_, sym, _∙_, ap}
 use Rattle.sheet.specs.Points.{isPoint, pointRefusal}
 use Rattle.kernel.proofs.Handed as handed

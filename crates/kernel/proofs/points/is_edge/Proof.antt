@@ -1,3 +1,4 @@
+-- `is_edge` meets its contract: its two flags are those of `edge`, with w as a size.
 use Rattle.whole.specs.Tests.{out-is, lit-flag}
 use borrow.Author.Needs.{needs}
 use Rattle.kernel.proofs.points.is_edge.Statement.{statement}

@@ -1,3 +1,4 @@
+-- `is_frame` meets its contract: what is not narrow is not on the frame; of a narrow point w is its own size, and the rest is left.
 use mathlib.Core.Path.{_≡_, sym, _∙_, ap, subst}
 use mathlib.Core.Bool.{true, _||_, _&&_}
 use native.Mathlib.Omega.{arith}

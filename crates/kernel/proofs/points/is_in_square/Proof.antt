@@ -1,3 +1,4 @@
+-- `is_in_square` meets its contract: its flags are those of `inSquare`; a sign is within 1, so its opposite fits.
 use mathlib.Core.Path.{_∙_, ap, ap₂}
 use mathlib.Core.Bool.{_||_, _&&_}
 use lib.Dec.{eqb, ltb}
@@ -5,7 +6,8 @@ use lib.IntN.{negℤ, natAbs, +ℤ-idl}
 use Rattle.whole.specs.Sign.{sgn}
 use Rattle.whole.specs.Ring.{var, lit, _⊖_}
 use Rattle.whole.specs.Flat.{none, _also_, need, raw-is}
-use Rattle.whole.specs.Bound.{Within, w-is, w-sgn}
+use Rattle.whole.specs.Within.{Within}
+use Rattle.whole.specs.Bound.{w-is, w-sgn}
 use Rattle.whole.specs.Flag.{eqZ}
 use Rattle.whole.specs.Tests.{out-is, fits-ok, lit-flag, eq-flag}
 use borrow.Author.Needs.{needs}

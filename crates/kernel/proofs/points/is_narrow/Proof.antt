@@ -1,3 +1,4 @@
+-- `is_narrow` meets its contract: its flags are those of `narrow`.
 use Rattle.whole.specs.Tests.{out-is}
 use Rattle.sheet.specs.Points.{narrow}
 use borrow.Author.Needs.{needs}

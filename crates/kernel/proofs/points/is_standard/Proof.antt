@@ -1,3 +1,4 @@
+-- `is_standard` meets its contract: its flags are those of `standard`.
 use Rattle.whole.specs.Tests.{out-is, lit-flag}
 use Rattle.sheet.specs.Points.{standard}
 use borrow.Author.Needs.{needs}

@@ -1,3 +1,4 @@
+-- `along` meets its contract: both differences of products fit, and `lead` takes them in turn.
 use mathlib.Core.List.{[], _∷_}
 use Rattle.whole.specs.Ring.{Expr, var, _⊖_, _⊗_}
 use Rattle.whole.specs.Flat.{All, none, _also_, need, gives}

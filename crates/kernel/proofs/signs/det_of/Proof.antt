@@ -1,3 +1,4 @@
+-- `det_of` meets its contract: every product of the nine numbers fits, and their sum is the determinant.
 use Rattle.whole.specs.Ring.{var, _⊖_, _⊗_}
 use Rattle.whole.specs.Flat.{need, gives}
 use Rattle.kernel.proofs.Det.{rows, one, two, three, detE}

@@ -1,3 +1,4 @@
+-- `frame_side` meets its contract: the tests of n are those of `sideOf`, and each answer is that side's expansion.
 use mathlib.Core.Path.{sym, _∙_, ap}
 use mathlib.Core.List.{[], _∷_}
 use lib.IntN.{ℤ, negℤ, +ℤ-idl}

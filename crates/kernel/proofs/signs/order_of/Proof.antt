@@ -1,6 +1,7 @@
+-- `order_of` meets its contract: `lead` of two signs is the first that is not 0, and the order is that of x, then of y (`order-is`).
 use mathlib.Core.Path.{sym, _∙_, ap₂}
-use Rattle.whole.specs.Poly.{first}
-use Rattle.whole.specs.PolyLaws.{first-sgn}
+use Rattle.whole.specs.Choice.{orElse}
+use Rattle.whole.specs.ChoiceLaws.{or-sgn}
 use Rattle.whole.specs.Tests.{gave}
 use Rattle.sheet.specs.Expansions.{order-is}
 use Rattle.kernel.proofs.Coordinates.{lead-is}
@@ -20,7 +21,7 @@ returns c =
     let x = gave (c .before .before .order-x .ok) (c .before .before .order-x .ensures) in
     let y = gave (c .before .order-y .ok) (c .before .order-y .ensures) in
     lead-is (c .lead .ok) (c .lead .ensures) x y
-    ∙ ap₂ first (first-sgn _ _) (first-sgn _ _)
+    ∙ ap₂ orElse (or-sgn _ _) (or-sgn _ _)
     ∙ sym (order-is (s .args .p) (s .args .q))
 
 pub order-of-spec : {M : Type 1} → statement M

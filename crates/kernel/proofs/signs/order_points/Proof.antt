@@ -1,8 +1,10 @@
+-- `order_points` meets its contract: the first refusal of two is the definition's; where it is 0 both are points, as `order_of` asks.
 use mathlib.Core.Path.{_≡_, sym, _∙_, ap₂}
 use mathlib.Core.List.{[], _∷_}
 use lib.IntN.{pos}
 use Rattle.whole.specs.Tests.{fits-ok, gave}
-use Rattle.sheet.specs.Signs.{orElse, orderRefusal}
+use Rattle.sheet.specs.Signs.{orderRefusal}
+use Rattle.whole.specs.Choice.{orElse}
 use Rattle.sheet.specs.AnswersLaws.{says-refused, accepted, not-refused}
 use Rattle.kernel.specs.Accepts.{order-accepts}
 use borrow.Author.Needs.{needs}

@@ -1,3 +1,4 @@
+-- `order_x` meets its contract: the numbers that it hands on are those of the two x.
 use mathlib.Core.Path.{_∙_}
 use Rattle.whole.specs.Tests.{gave}
 use Rattle.kernel.proofs.Coordinates.{x-of, coordinate-out, along-out}

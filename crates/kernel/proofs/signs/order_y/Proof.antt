@@ -1,3 +1,4 @@
+-- `order_y` meets its contract: the numbers that it hands on are those of the two y.
 use mathlib.Core.Path.{_∙_}
 use Rattle.whole.specs.Tests.{gave}
 use Rattle.kernel.proofs.Coordinates.{y-of, coordinate-out, along-out}

@@ -1,3 +1,4 @@
+-- `pair_side` meets its contract: the products of nine numbers fit, and b and c are the coefficients of `pairSide`.
 use mathlib.Core.List.{[], _∷_}
 use Rattle.whole.specs.Ring.{Expr, var, _⊖_, _⊗_}
 use Rattle.whole.specs.Flat.{All, none, _also_, need, gives}

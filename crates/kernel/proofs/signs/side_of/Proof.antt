@@ -1,8 +1,10 @@
+-- `side_of` meets its contract: the first refusal of two is the definition's; where it is 0 `side_sign` takes the object and the point.
 use mathlib.Core.Path.{_≡_, sym, _∙_, ap₂}
 use mathlib.Core.List.{[], _∷_}
 use lib.IntN.{pos}
 use Rattle.whole.specs.Tests.{fits-ok, gave}
-use Rattle.sheet.specs.Signs.{orElse, sideSignRefusal}
+use Rattle.sheet.specs.Signs.{sideSignRefusal}
+use Rattle.whole.specs.Choice.{orElse}
 use Rattle.sheet.specs.AnswersLaws.{says-refused, accepted, not-refused}
 use Rattle.kernel.specs.Accepts.{side-accepts}
 use borrow.Author.Needs.{needs}

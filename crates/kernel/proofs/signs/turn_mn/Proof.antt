@@ -1,3 +1,4 @@
+-- `turn_mn` meets its contract: the rows that it hands on are w, mx and ny of the three points.
 use mathlib.Core.Path.{_∙_}
 use Rattle.whole.specs.Tests.{gave}
 use Rattle.kernel.proofs.Det.{mn, row-out, det-out}

@@ -1,3 +1,4 @@
+-- `turn_nm` meets its contract: the rows that it hands on are w, nx and my of the three points.
 use mathlib.Core.Path.{_∙_}
 use Rattle.whole.specs.Tests.{gave}
 use Rattle.kernel.proofs.Det.{nm, row-out, det-out}

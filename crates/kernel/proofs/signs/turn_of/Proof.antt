@@ -1,9 +1,10 @@
+-- `turn_of` meets its contract: the two parts of b are small enough to be added, and `lead` takes a, b and c in turn (`turn-is`).
 use mathlib.Core.Path.{sym, _∙_, ap, ap₂}
 use mathlib.Core.List.{[], _∷_}
 use lib.IntN.{ℤ, _+ℤ_}
 use Rattle.whole.specs.Sign.{sgn}
-use Rattle.whole.specs.Poly.{first}
-use Rattle.whole.specs.PolyLaws.{first-sgn}
+use Rattle.whole.specs.Choice.{orElse}
+use Rattle.whole.specs.ChoiceLaws.{or-sgn}
 use Rattle.whole.specs.Ring.{var, _⊕_}
 use Rattle.whole.specs.Flat.{All, none, _also_, need, gives}
 use Rattle.whole.specs.Bound.{w-is}
@@ -50,7 +51,7 @@ returns c =
     in
     let e = gave (c .before .before .turn-c .ok) (c .before .before .turn-c .ensures) in
     lead-is (c .lead2 .ok) (c .lead2 .ensures) (lead-is (c .before .lead .ok) (c .before .lead .ensures) a b) e
-    ∙ ap (λ (x : ℤ). first x (sgn (turnC (s .args .p) (s .args .q) (s .args .s)))) (first-sgn _ _)
+    ∙ ap (λ (x : ℤ). orElse x (sgn (turnC (s .args .p) (s .args .q) (s .args .s)))) (or-sgn _ _)
     ∙ sym (turn-is (s .args .p) (s .args .q) (s .args .s))
 
 pub turn-of-spec : {M : Type 1} → statement M

@@ -1,6 +1,8 @@
+-- `turn_refusal` meets its contract: its three calls of `or_else` are the definition's, at the refusals of the points and at 6.
 use mathlib.Core.Path.{_∙_, ap₂}
 use Rattle.whole.specs.Tests.{gave}
-use Rattle.sheet.specs.Signs.{orElse, turnRefusal}
+use Rattle.sheet.specs.Signs.{turnRefusal}
+use Rattle.whole.specs.Choice.{orElse}
 use borrow.Author.Needs.{needs}
 use Rattle.kernel.proofs.signs.turn_refusal.Statement.{statement}
 use Rattle.kernel.proofs.signs.turn_refusal.Tie as tie

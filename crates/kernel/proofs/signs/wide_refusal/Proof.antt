@@ -1,3 +1,4 @@
+-- `wide_refusal` meets its contract: the flag that it tests is the definition's, call by call.
 use mathlib.Core.Path.{_≡_, sym, _∙_}
 use mathlib.Core.Bool.{_&&_}
 use Rattle.sheet.specs.Points.{narrow}

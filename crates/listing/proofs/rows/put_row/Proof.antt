@@ -1,25 +1,26 @@
+-- `put_row` meets its contract: in each arm, what the two share, by the law of its row.
 use mathlib.Core.Path.{_≡_, sym, ap, subst, _∙_}
 use mathlib.Core.List.{_∷_}
 use native.Mathlib.Omega.{arith}
 use lib.IntN.{pos}
-use lib.ListN.{length}
 use Rattle.sheet.specs.declared.Object.{Object}
 use Rattle.sheet.specs.declared.Point.{Point}
 use Rattle.sheet.specs.Points.{numbers}
 use Rattle.sheet.specs.Refusal.{Accepted}
-use Rattle.sheet.specs.Crossing.{Meeting, point, many, crossingOf}
-use Rattle.kernel.proofs.Handed as handed
-use Rattle.sheet.specs.Lists.{rowWidth, objectAt}
+use Rattle.sheet.specs.Crossing.{point, many, crossingOf}
+use Rattle.sheet.specs.Lists.{objectAt}
 use Rattle.sheet.specs.LentLaws.{wrote-none, wrote-as}
-use Rattle.listing.specs.Rows.{meetingOf, rowBy}
-use Rattle.listing.specs.RowsLaws.{meetingBy}
+use Rattle.sheet.specs.AnswersLaws.{meetingBy}
+use Rattle.kernel.proofs.Handed as handed
+use Rattle.listing.specs.Rows.{meetingOf}
+use Rattle.listing.specs.RowsLaws.{Pair, row-once, row-many, row-none}
 use borrow.Author.Needs.{needs}
 use Rattle.listing.proofs.rows.put_row.Statement.{statement}
 use Rattle.listing.proofs.rows.put_row.Tie as tie
 
 meet-requires : tie.Need-meet-requires
 meet-requires c κs =
-    let p = c .pre .0 in
+    let p = c .pre in
     (subst Accepted (sym (p .1)) (p .0 .list .each (c .args .i) (p .0 .one)), (p .0 .list, p .0 .two))
 
 -- what the two share: object i is the one that was handed in
@@ -27,24 +28,12 @@ met : (c : tie.After-meet) → meetingBy (c .meet .result) ≡ meetingOf (c .bef
 unfolding meetingOf
 met c =
     let s = c .before in
-    c .meet .ensures ∙ ap (λ (a : Object). crossingOf a (objectAt (s .args .list .now) (s .args .j))) (s .pre .0 .1)
-
--- and so in each arm
-met-once : (c : tie.After-p) → point (c .p .given .0 .0)
-    ≡ meetingOf (c .before .before .before .args .list .now) (c .before .before .before .args .i) (c .before .before .before .args .j)
-met-once c = sym (ap meetingBy (c .p .given .1)) ∙ met (c .before .before)
-
-met-many : (c : tie.After-enum-told) → many
-    ≡ meetingOf (c .before .before .before .args .list .now) (c .before .before .before .args .i) (c .before .before .before .args .j)
-met-many c = sym (ap meetingBy (c .enum-told .given .1)) ∙ met (c .before .before)
+    c .meet .ensures ∙ ap (λ (a : Object). crossingOf a (objectAt (s .args .list .now) (s .args .j))) (s .pre .1)
 
 write-row-requires : tie.Need-write-row-requires
 write-row-requires c κs =
-    let k = c .before .before .before .before .before .before in
-    let s = k .before .before .before .before in
-    let e : rowWidth ≡ length (rowBy (s .args .i) (s .args .j) (meetingOf (s .args .list .now) (s .args .i) (s .args .j))) =
-    ap (λ (m : Meeting). length (rowBy (s .args .i) (s .args .j) m)) (met-once (k .before)) in
-    (omega (arith, s .pre .1), (omega (arith, s .pre .0 .0 .list .few, s .pre .0 .0 .one), omega (arith, s .pre .0 .0 .list .few, s .pre .0 .0 .two)))
+    let s = c .before .before .before .before .before .before .before .before .before .before in
+    (omega (arith, s .pre .0 .list .few, s .pre .0 .one), omega (arith, s .pre .0 .list .few, s .pre .0 .two))
 
 returns : tie.Need-returns
 returns c =
@@ -52,31 +41,35 @@ returns c =
     let k = c .before .before .before .before .before .before .before .before in
     let s = k .before .before .before .before in
     let t = c .before .before .before .before .before .before .struct-told .given in
-    let p = k .before .p .given .0 .0 in
-    let same = handed.point-told p t in
-    wrote-as (w .ensures) (ap (λ (q : Point). pos (s .args .i) ∷ pos (s .args .j) ∷ pos 1 ∷ numbers q) same ∙ ap (rowBy (s .args .i) (s .args .j)) (met-once (k .before)))
+    let e = k .before .p .given in
+    let same = handed.point-told (e .0 .0) t in
+    wrote-as (w .ensures)
+    (ap (λ (q : Point). pos (s .args .i) ∷ pos (s .args .j) ∷ pos 1 ∷ numbers q) same
+    ∙ row-once (s .args .list .now) (s .args .i) (s .args .j) (sym (ap meetingBy (e .1)) ∙ met (k .before .before .before)))
 
 write-row-requires-2 : tie.Need-write-row-requires-2
 write-row-requires-2 c κs =
     let s = c .before .before .before .before in
-    let e : rowWidth ≡ length (rowBy (s .args .i) (s .args .j) (meetingOf (s .args .list .now) (s .args .i) (s .args .j))) =
-    ap (λ (m : Meeting). length (rowBy (s .args .i) (s .args .j) m)) (met-many (c .before)) in
-    (omega (arith, s .pre .1), (omega (arith, s .pre .0 .0 .list .few, s .pre .0 .0 .one), omega (arith, s .pre .0 .0 .list .few, s .pre .0 .0 .two)))
+    (omega (arith, s .pre .0 .list .few, s .pre .0 .one), omega (arith, s .pre .0 .list .few, s .pre .0 .two))
 
 returns-2 : tie.Need-returns-2
 returns-2 c =
-    let s = c .before .before .before .before .before .before in
-    wrote-as (c .before .write-row2 .ensures) (ap (rowBy (s .args .i) (s .args .j)) (met-many (c .before .before .before)))
+    let k = c .before .before .before in
+    let s = k .before .before .before in
+    wrote-as (c .before .write-row2 .ensures)
+    (row-many (s .args .list .now) (s .args .i) (s .args .j) (sym (ap meetingBy (k .enum-told .given .1)) ∙ met (k .before .before)))
 
 returns-3 : tie.Need-returns-3
 returns-3 c =
     let s = c .before .before .before in
-    wrote-as wrote-none (ap (rowBy (s .args .i) (s .args .j)) (sym (ap meetingBy (c .enum-told2 .given .1)) ∙ met (c .before .before)))
+    wrote-as (wrote-none (omega arith) (omega arith))
+    (row-none (s .args .list .now) (s .args .i) (s .args .j) (sym (ap meetingBy (c .enum-told2 .given .1)) ∙ met (c .before .before)))
 
 returns-4 : tie.Need-returns-4
 returns-4 c =
     let s = c .before .before .before in
-    wrote-as wrote-none (ap (rowBy (s .args .i) (s .args .j)) (sym (ap meetingBy (c .enum-told3 .given .1)) ∙ met (c .before .before)))
+    wrote-as (wrote-none (omega arith) (omega arith))
+    (row-none (s .args .list .now) (s .args .i) (s .args .j) (sym (ap meetingBy (c .enum-told3 .given .1)) ∙ met (c .before .before)))
 
 pub put-row-spec : {M : Type 1} → statement M
 put-row-spec =

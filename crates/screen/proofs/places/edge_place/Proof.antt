@@ -1,3 +1,4 @@
+-- `edge_place` meets its contract: the side is that of `sideWhere`, and `value_along` divides the coordinate along it (`along-is`).
 use mathlib.Core.Path.{_≡_, _∙_, ap}
 use mathlib.Core.List.{[], _∷_}
 use lib.IntN.{ℤ, pos}
@@ -20,7 +21,7 @@ number : (c : tie.After-side-number) → out (c .side-number .result) ≡ sideNu
 number c =
     let s = c .before in
     let r = c .side-number in
-    let p = handed.point (point s) (s .fits .mx .sfits) (s .fits .nx .sfits) (s .fits .my .sfits) (s .fits .ny .sfits) (s .fits .w .sfits) in
+    let p = handed.by-five (s .fits .mx) (s .fits .nx) (s .fits .my) (s .fits .ny) (s .fits .w) handed.pointOf in
     gave (r .ok) (r .ensures) ∙ (λ i. sideNumber (sideWhere (p i)))
 
 -- what `value_along` gives for two numbers of the point, one of x and one of y

@@ -1,3 +1,4 @@
+-- `is_exactly` meets its contract: its two tests are those of `exactly`.
 use Rattle.whole.specs.Tests.{eq-flag, lit-flag}
 use Rattle.screen.proofs.places.is_exactly.Statement.{statement}
 use Rattle.screen.proofs.places.is_exactly.Tie as tie

@@ -1,3 +1,4 @@
+-- `point_place` meets its contract: mx and my are 0 at a standard point alone (`flat-is`); what is divided is in the limits of `ratio`.
 use mathlib.Core.Path.{_≡_, sym, _∙_, ap, ap₂}
 use mathlib.Core.Bool.{_&&_}
 use mathlib.Core.List.{[], _∷_}
@@ -45,7 +46,7 @@ returns-2 : tie.Need-returns-2
 returns-2 c =
     let s = c .before .before in
     c .edge-place .ensures
-    ∙ ap edgeOf (handed.point (point s) (s .fits .mx .sfits) (s .fits .nx .sfits) (s .fits .my .sfits) (s .fits .ny .sfits) (s .fits .w .sfits))
+    ∙ ap edgeOf (handed.by-five (s .fits .mx) (s .fits .nx) (s .fits .my) (s .fits .ny) (s .fits .w) handed.pointOf)
     ∙ sym (place-frame (point s) (tested s ∙ c .before .if1 .left))
 
 pub point-place-spec : {M : Type 1} → statement M

@@ -1,3 +1,4 @@
+-- `side_number` meets its contract: -w fits since w is within 32,000,000, and the tests of the four flags are those of `sideWhere`.
 use mathlib.Core.Path.{_≡_, _∙_}
 use mathlib.Core.List.{[], _∷_}
 use lib.IntN.{pos, negℤ, _-ℤ_, +ℤ-idl}

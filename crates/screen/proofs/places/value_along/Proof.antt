@@ -1,3 +1,4 @@
+-- `value_along` meets its contract: the test of the side's number is that of `alongNumber`, and `ratio` divides what it chooses.
 use mathlib.Core.Path.{_≡_, sym, _∙_, ap, ap₂}
 use mathlib.Core.Bool.{Bool, cond, _||_}
 use lib.Dec.{eqb}

@@ -1,3 +1,4 @@
+-- `exact` meets its contract: a number within 2,000 is within 2 ^ 53, as the cast asks.
 use mathlib.Core.Path.{ap}
 use Rattle.whole.specs.Bound.{w-lit}
 use Rattle.whole.specs.Flat.{back}

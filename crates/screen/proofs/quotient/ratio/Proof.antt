@@ -1,3 +1,4 @@
+-- `ratio` meets its contract: both numbers are within 2 ^ 53, as the casts ask, and their quotient is near the fraction (`quotient-near`).
 use mathlib.Core.Path.{sym, ap₂, subst}
 use Rattle.whole.specs.Bound.{w-lit}
 use Rattle.whole.specs.Flat.{back}

@@ -1,3 +1,4 @@
+-- `line` meets its contract: it is `make` of kind 3, and the four numbers that it hands on are its own.
 use Rattle.whole.specs.Tests.{out-is}
 use borrow.Author.Needs.{needs}
 use Rattle.sheet.proofs.Object.line.Statement.{statement}

@@ -1,3 +1,4 @@
+-- `segment` meets its contract: it is `make` of kind 1, and the four numbers that it hands on are its own.
 use Rattle.whole.specs.Tests.{out-is}
 use borrow.Author.Needs.{needs}
 use Rattle.sheet.proofs.Object.segment.Statement.{statement}

@@ -1,3 +1,4 @@
+-- `side` meets its contract: a refusal that is not 0 is answered; where it is 0 the object is 4, n and three times 0.
 use lib.IntN.{pos}
 use mathlib.Core.Path.{_≡_}
 use Rattle.whole.specs.Tests.{out-is}

@@ -1,3 +1,4 @@
+-- `list_refusal` meets its contract: its tests of the length and of the count are those of `listRefusal`; then come the objects in turn.
 use mathlib.Core.Path.{_∙_}
 use borrow.Author.Tests.{eq-eqb, ne-eqb, lt-ltb, le-ltb}
 use Rattle.whole.specs.Tests.{fits-ok, out-is}

@@ -1,12 +1,14 @@
+-- `objects_refusal` meets its contract: after i turns none of the first i objects is refused; the first that is refused ends it.
 use Prim.Native.Nat.{_-_, _≤_}
 use mathlib.Core.Path.{_≡_, refl, sym, ap, _∙_}
 use lib.IntN.{pos}
 use native.Mathlib.Omega.{arith}
 use borrow.Author.Needs.{needs}
+use Rattle.whole.specs.InTurn.{inTurn}
 use Rattle.whole.specs.Tests.{fits-ok, out-is, eq-left}
 use Rattle.sheet.specs.AnswersLaws.{not-refused}
 use Rattle.sheet.specs.Refusal.{objectRefusal}
-use Rattle.sheet.specs.Lists.{firstRefusal, objectsRefusal}
+use Rattle.sheet.specs.Lists.{objectsRefusal}
 use Rattle.sheet.specs.ListsLaws.{one-accepted, one-refused}
 use Rattle.sheet.proofs.lists.objects_refusal.Statement.{statement}
 use Rattle.sheet.proofs.lists.objects_refusal.Tie as tie
@@ -18,7 +20,7 @@ abbrev μ-loop : tie.MeasureT-loop
 μ-loop list n i₀ i = n - i
 
 loop-holds : tie.Need-loop-holds Inv-loop μ-loop
-unfolding firstRefusal
+unfolding inTurn
 loop-holds c = (search needs, refl)
 
 returns : tie.Need-returns Inv-loop μ-loop

@@ -1,3 +1,4 @@
+-- `of_crossing` meets its contract: in each of the four cases the numbers are those of `crossingSays`, and 0 where it has none.
 use mathlib.Core.Path.{sym, _∙_, ap}
 use lib.IntN.{ℤ}
 use Rattle.whole.specs.Tests.{out-ok}

@@ -1,3 +1,4 @@
+-- `of_ends` meets its contract: both ends are handed on behind a 0; behind a refusal stand two points of zeros, as in `twoEndsOf`.
 use mathlib.Core.Path.{sym, _∙_, ap}
 use Rattle.whole.specs.Tests.{out-ok}
 use Rattle.sheet.specs.declared.Ends.{Ends}

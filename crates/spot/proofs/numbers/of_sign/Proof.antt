@@ -1,3 +1,4 @@
+-- `of_sign` meets its contract: in both cases the numbers are those of `signedSays`, and 0 where it has none.
 use mathlib.Core.Path.{sym, _∙_, ap}
 use lib.IntN.{ℤ}
 use Rattle.whole.specs.Tests.{out-ok}

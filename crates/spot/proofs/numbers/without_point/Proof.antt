@@ -1,3 +1,4 @@
+-- `without_point` meets its contract: the two numbers are handed on, and `no_point` is the point of no numbers.
 use Rattle.whole.specs.Tests.{out-ok}
 use borrow.Author.Needs.{needs}
 use Rattle.spot.proofs.numbers.without_point.Statement.{statement}

@@ -1,4 +1,4 @@
--- `coordinate_of` meets its contract: the half is a natural number, and below 0 it is -(half) - 1. Assumes nothing.
+-- `coordinate_of` meets its contract: the half is a natural number, and below 0 it is -(half) - 1.
 use borrow.Author.Needs.{needs}
 use borrow.Author.Tests.{eq-eqb, ne-eqb}
 use mathlib.Core.Path.{_≡_, ap, _∙_}
@@ -10,12 +10,13 @@ use lib.IntN.{pos, negsuc, negℤ, _-ℤ_}
 use mir.Syntax.{w64}
 use mir.Facts.{toZ-pos}
 use Rattle.whole.specs.Ring.{var, con, lit, _⊕_, _⊖_, ⊝_, ring}
-use Rattle.whole.specs.Bound.{Within}
+use Rattle.whole.specs.Within.{Within}
 use Rattle.whole.specs.Flat.{none, _also_, need, gives}
+use Rattle.number.specs.Number.{numberLimit}
 use Rattle.store.proofs.reading.coordinate_of.Statement.{statement}
 use Rattle.store.proofs.reading.coordinate_of.Tie as tie
 
-half : (s : tie.Start) → Within 8192 (pos (s .args .n / 2))
+half : (s : tie.Start) → Within numberLimit (pos (s .args .n / 2))
 half s = record { within = omega arith }
 
 below : (h : ℕ) → pos 0 -ℤ pos h -ℤ pos 1 ≡ negsuc h

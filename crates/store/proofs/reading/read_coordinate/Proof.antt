@@ -1,42 +1,72 @@
--- `read_coordinate` meets its contract: the number is read whole, then checked. Assumes nothing.
+-- `read_coordinate` meets its contract: the number is read whole, counted from the start, then checked.
 use borrow.Author.Needs.{needs}
-use mathlib.Core.Path.{_≡_, refl, sym, _∙_}
+use mathlib.Core.Path.{_≡_, refl, sym, ap, subst, _∙_}
 use mathlib.Core.Bool.{Bool}
-use Rattle.whole.specs.Tests.{out, gave}
+use Prim.Native.Nat.{_≤_}
+use native.Mathlib.Omega.{arith}
+use lib.IntN.{ℤ, natAbs, _+ℤ_}
+use Rattle.whole.specs.Ring.{var, _⊕_}
+use Rattle.whole.specs.Within.{Within}
+use Rattle.whole.specs.Flat.{none, _also_, need, gives}
+use Rattle.whole.specs.Tests.{out}
+use Rattle.sheet.specs.Limits.{reachSize}
 use Rattle.sheet.specs.Refusal.{beyond}
-use Rattle.store.specs.Stored.{readCoordinate, unzigzag}
-use Rattle.store.specs.TellsLaws.{on-refused, on-taken, tells-taken, tells-refused, tells-as}
+use Rattle.number.specs.Number.{numberLimit, readNumber, unzigzag}
+use Rattle.number.specs.ReadAs.{ReadAs}
+use Rattle.number.specs.NumberLaws.{number-tells}
+use Rattle.number.specs.ReadAsLaws.{on-refused, on-taken, reads-taken, reads-refused, reads-as}
+use Rattle.number.specs.ZigzagLaws.{unzigzag-small}
+use Rattle.store.specs.Stored.{readCoordinate}
 use Rattle.store.proofs.reading.read_coordinate.Statement.{statement}
 use Rattle.store.proofs.reading.read_coordinate.Tie as tie
 
+-- what the number's answer says
+told : (c : tie.After-read-number) →
+    let bs = c .before .before .args .bytes .now in
+    ReadAs bs (readNumber bs) (c .read-number .result .refusal) (c .read-number .result .value) (c .read-number .result .size)
+told c = number-tells (c .before .before .args .bytes .now) (c .read-number .ensures .0)
+
 returns : tie.Need-returns
 unfolding readCoordinate
-returns c = on-refused (c .before .before .read-number .ensures .0) (c .before .struct-told .given .0 .1) _ (c .if1 .taken)
+returns c = on-refused (told (c .before .before)) (c .before .struct-told .given .0 .1) _ (c .if1 .taken)
 
-value : (c : tie.After-coordinate-of) → out (c .coordinate-of .result) ≡ unzigzag (c .before .before .before .read-number .result .value)
-value c = gave (c .coordinate-of .ok) (c .coordinate-of .ensures)
+start-within : (c : tie.After-coordinate-of) → Within reachSize (c .before .before .before .before .before .args .start)
+start-within c = record { within = c .before .before .before .before .before .pre }
 
-far : (c : tie.After-coordinate-of) {t : Bool} → beyond (out (c .coordinate-of .result)) ≡ t → beyond
-    (unzigzag (c .before .before .before .read-number .result .value)) ≡ t
-far c e = simp (sym (value c)) e
+far-within : (c : tie.After-coordinate-of) → Within numberLimit (c .coordinate-of .result)
+far-within c =
+    let r = c .before .before .before .read-number in
+    record { within = subst (λ (z : ℤ). natAbs z ≤ numberLimit) (sym (c .coordinate-of .ensures)) (omega (arith, unzigzag-small (r .result .value), r .ensures .1 .0)) }
+
+value : (c : tie.After-coordinate-of) →
+    let start = c .before .before .before .before .before .args .start in
+    out (out start +ℤ out (c .coordinate-of .result)) ≡ start +ℤ unzigzag (c .before .before .before .read-number .result .value)
+value c =
+    gives (start-within c also far-within c also none) (var 0 ⊕ var 1) tt
+    ∙ ap (λ (z : ℤ). c .before .before .before .before .before .args .start +ℤ z) (c .coordinate-of .ensures)
+
+add-value : tie.Need-add-value
+add-value c = need (start-within c also far-within c also none) (var 0 ⊕ var 1) tt
+
+far : (c : tie.After-is-beyond) {t : Bool} → c .is-beyond .result ≡ t
+    → beyond (c .before .before .before .before .before .before .args .start +ℤ unzigzag (c .before .before .before .before .read-number .result .value)) ≡ t
+far c e = sym (c .is-beyond .ensures ∙ ap beyond (value (c .before))) ∙ e
 
 returns-2 : tie.Need-returns-2
 unfolding readCoordinate
 returns-2 c =
-    let s = c .before .before .before .before in
-    let number = on-taken (s .read-number .ensures .0) (c .before .before .before .struct-told .given .0 .1) _
-    (c .before .before .if1 .left) in
-    tells-refused refl (number ∙ simp (far (c .before) (c .if2 .taken)))
+    let s = c .before .before .before .before .before in
+    let number = on-taken (told s) (c .before .before .before .before .struct-told .given .0 .1) _ (c .before .before .before .if1 .left) in
+    reads-refused refl (number ∙ simp (far (c .before) (c .if2 .taken)))
 
 returns-3 : tie.Need-returns-3
 unfolding readCoordinate
 returns-3 c =
-    let s = c .before .before .before .before in
-    let number = on-taken (s .read-number .ensures .0) (c .before .before .before .struct-told .given .0 .1) _
-    (c .before .before .if1 .left) in
-    tells-as refl (value (c .before)) (tells-taken (number ∙ simp (far (c .before) (c .if2 .left))) (s .read-number .ensures .0 .within))
+    let s = c .before .before .before .before .before in
+    let number = on-taken (told s) (c .before .before .before .before .struct-told .given .0 .1) _ (c .before .before .before .if1 .left) in
+    reads-as refl (value (c .before .before)) (reads-taken (number ∙ simp (far (c .before) (c .if2 .left))) (told s .within))
 
 pub read-coordinate-spec : {M : Type 1} → statement M
 read-coordinate-spec =
     tie.close
-    (tie.spec (λ c κs. search needs) returns (λ c κs. search needs) (λ c. search needs) returns-2 returns-3)
+    (tie.spec (λ c κs. search needs) returns (λ c κs. search needs) add-value (λ c κs. search needs) returns-2 returns-3)

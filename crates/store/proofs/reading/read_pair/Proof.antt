@@ -1,11 +1,12 @@
--- `read_pair` meets its contract: p, and then the object from p by the rest of the slice. Assumes nothing.
+-- `read_pair` meets its contract: p, and then the object from p by the rest of the slice.
 use borrow.Author.Needs.{needs}
 use mathlib.Core.Path.{refl}
 use lib.ListN.{drop}
-use Rattle.store.specs.Tells.{Tells}
+use Rattle.number.specs.ReadAs.{ReadAs}
 use Rattle.whole.specs.Tests.{out-ok}
-use Rattle.store.specs.Stored.{pairOf, readTo, readPair}
-use Rattle.store.specs.TellsLaws.{on-refused, tells-on, tells-as, tells-no, tells-rest}
+use Rattle.sheet.specs.Figure.{vec}
+use Rattle.store.specs.Stored.{plain, readTo, readPair}
+use Rattle.number.specs.ReadAsLaws.{on-refused, reads-on, reads-as, reads-no, reads-rest}
 use Rattle.store.proofs.reading.read_pair.Statement.{statement}
 use Rattle.store.proofs.reading.read_pair.Tie as tie
 
@@ -13,7 +14,7 @@ returns : tie.Need-returns
 unfolding readPair
 returns c =
     let s = c .before .before .before in
-    tells-no (c .no-part .ensures) (on-refused (s .read-point .ensures) (c .before .before .struct-told .given .0 .1) _
+    reads-no (c .no-part .ensures) (on-refused (s .read-point .ensures) (c .before .before .struct-told .given .0 .1) _
     (c .before .if1 .taken))
 
 returns-2 : tie.Need-returns-2
@@ -25,12 +26,12 @@ returns-2 c =
     let part = c .before .before .before .read-to in
     let s = first .before .before in
     let bs = s .args .bytes .now in
-    let point : Tells (drop (p .size) bs) (readTo (s .args .kind) (pairOf (p .x) (p .y)) (drop (p .size) bs)) (part .result .refusal)
+    let point : ReadAs (drop (p .size) bs) (readTo plain (s .args .kind) (vec (p .x) (p .y)) (drop (p .size) bs)) (part .result .refusal)
     (part .result .object) (part .result .size) =
-    tells-rest (readTo (s .args .kind) (pairOf (p .x) (p .y))) (p .size) bs
+    reads-rest (readTo plain (s .args .kind) (vec (p .x) (p .y))) (p .size) bs
     (simp (out-ok (p .x) (told .1 .0 .1), out-ok (p .y) (told .1 .1 .0 .1)) at (part .ensures)) in
-    tells-on (first .read-point .ensures) (told .0 .1) _ (c .before .before .before .before .before .before .before .if1 .left)
-    (tells-as (out-ok (part .result .refusal) (c .struct-told4 .given .0 .1)) refl point)
+    reads-on (first .read-point .ensures) (told .0 .1) _ (c .before .before .before .before .before .before .before .if1 .left)
+    (reads-as (out-ok (part .result .refusal) (c .struct-told4 .given .0 .1)) refl point)
 
 pub read-pair-spec : {M : Type 1} → statement M
 read-pair-spec =

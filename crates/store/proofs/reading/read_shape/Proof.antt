@@ -1,4 +1,4 @@
--- `read_shape` meets its contract: by the kind. Assumes nothing.
+-- `read_shape` meets its contract: by the kind.
 use borrow.Author.Needs.{needs}
 use borrow.Author.Tests.{eq-eqb, ne-eqb}
 use Rattle.store.specs.Stored.{readShape}

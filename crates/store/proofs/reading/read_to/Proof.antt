@@ -1,4 +1,4 @@
--- `read_to` meets its contract: the point is read whole, then compared with p. Assumes nothing.
+-- `read_to` meets its contract: the point is read whole, then compared with p.
 use borrow.Author.Needs.{needs}
 use mathlib.Core.Path.{_≡_, refl, sym, _∙_}
 use mathlib.Core.Bool.{Bool, _&&_}
@@ -10,7 +10,7 @@ use mir.Facts.{toZ-pos}
 use Rattle.sheet.specs.Refusal.{equal}
 use Rattle.whole.specs.Tests.{out-is, out-ok, fits-ok, eq-flag}
 use Rattle.store.specs.Stored.{readTo}
-use Rattle.store.specs.TellsLaws.{on-refused, on-taken, tells-taken, tells-refused, tells-as, tells-no}
+use Rattle.number.specs.ReadAsLaws.{on-refused, on-taken, reads-taken, reads-refused, reads-as, reads-no}
 use Rattle.store.proofs.reading.read_to.Statement.{statement}
 use Rattle.store.proofs.reading.read_to.Tie as tie
 
@@ -31,7 +31,7 @@ returns : tie.Need-returns
 unfolding readTo
 returns c =
     let s = c .before .before .before in
-    tells-no (c .no-part .ensures) (on-refused (s .read-point .ensures) (c .before .before .struct-told .given .0 .1) _
+    reads-no (c .no-part .ensures) (on-refused (s .read-point .ensures) (c .before .before .struct-told .given .0 .1) _
     (c .before .if1 .taken))
 
 returns-2 : tie.Need-returns-2
@@ -41,7 +41,7 @@ returns-2 c =
     let first = t .before .before .before .before in
     let point = on-taken (first .read-point .ensures) (t .before .before .before .struct-told .given .0 .1) _
     (t .before .before .if1 .left) in
-    tells-no (c .no-part2 .ensures) (tells-refused refl (point ∙ simp (twice t (c .before .if2 .taken))))
+    reads-no (c .no-part2 .ensures) (reads-refused refl (point ∙ simp (twice t (c .before .if2 .taken))))
 
 returns-3 : tie.Need-returns-3
 unfolding readTo
@@ -52,7 +52,7 @@ returns-3 c =
     let q = first .read-point .result in
     let told = t .before .before .before .struct-told .given in
     let point = on-taken (first .read-point .ensures) (told .0 .1) _ (t .before .before .if1 .left) in
-    tells-as refl
+    reads-as refl
     (λ i. record {
       kind = toZ-pos w64 {n = s .args .kind} (omega arith) i;
       px = out-is (s .fits .px) i;
@@ -60,7 +60,7 @@ returns-3 c =
       qx = out-ok (q .x) (told .1 .0 .1) i;
       qy = out-ok (q .y) (told .1 .1 .0 .1) i;
     })
-    (tells-taken (point ∙ simp (twice t (c .if2 .left))) (first .read-point .ensures .within))
+    (reads-taken (point ∙ simp (twice t (c .if2 .left))) (first .read-point .ensures .within))
 
 pub read-to-spec : {M : Type 1} → statement M
 read-to-spec =

@@ -1,4 +1,4 @@
--- `stored` meets its contract: twice the size, and one less below 0. Assumes nothing.
+-- `stored` meets its contract: twice the size, and one less below 0.
 use borrow.Author.Needs.{needs}
 use mathlib.Core.Path.{_≡_, ap, _∙_}
 use Prim.Native.Nat.{ℕ, _*_, _-_}
@@ -6,7 +6,7 @@ use native.Mathlib.Omega.{arith}
 use lib.IntN.{natAbs}
 use Rattle.whole.specs.Bound.{fits64, w-pos}
 use Rattle.whole.specs.Tests.{out-is, lt-taken, lt-left}
-use Rattle.store.specs.WriteLaws.{below-size, zigzag-below, zigzag-else}
+use Rattle.number.specs.ZigzagLaws.{below-size, zigzag-below, zigzag-else}
 use Rattle.store.proofs.writing.stored.Statement.{statement}
 use Rattle.store.proofs.writing.stored.Tie as tie
 

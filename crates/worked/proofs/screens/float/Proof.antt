@@ -1,3 +1,4 @@
+-- `float` meets its contract: what equals itself is no NaN, and of no NaN the bits may be asked.
 use mathlib.Core.Path.{_≡_, sym}
 use mathlib.Core.Bool.{true, not, true≢false}
 use lib.Dec.{T}

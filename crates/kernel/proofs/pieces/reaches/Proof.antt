@@ -1,9 +1,0 @@
-use Rattle.whole.specs.Tests.{out-is, lit-flag}
-use Rattle.kernel.proofs.pieces.reaches.Statement.{statement}
-use Rattle.kernel.proofs.pieces.reaches.Tie as tie
-
-returns : tie.Need-returns
-returns c = simp (out-is, lit-flag 1 tt, lit-flag 3 tt, c .fits .kind, c .fits .h, c .fits .w)
-
-pub reaches-spec : {M : Type 1} → statement M
-reaches-spec = tie.close (tie.spec returns)

@@ -1,0 +1,116 @@
+-- `cross_stretches` meets its contract: the cross products of the eight coordinates fit, and their two tests are the three cases of two stretches.
+use mathlib.Core.Path.{_≡_, sym, _∙_, ap, ap₂}
+use Rattle.whole.specs.Ring.{Expr, lit, _⊖_, _⊗_}
+use Rattle.whole.specs.Flat.{need, gives, eq-gives, ne-gives}
+use Rattle.whole.specs.Tests.{out}
+use Rattle.sheet.specs.Crossing.{Stretch, cross, skew, together}
+use Rattle.kernel.specs.Stretches.{stretch, stretches-skew, stretches-apart, stretches-together}
+use Rattle.kernel.proofs.Eight.{dxE, dyE, fxE, fyE, exE, eyE, acrossE, say, near-out, stretch-out}
+use Rattle.kernel.proofs.stretches.cross_stretches.Statement.{statement}
+use Rattle.kernel.proofs.stretches.cross_stretches.Tie as tie
+
+abbrev offE : Expr
+offE = dxE ⊗ eyE ⊖ dyE ⊗ exE
+
+abbrev A : tie.Start → Stretch
+A s = stretch (s .args .ka) (s .args .px) (s .args .py) (s .args .qx) (s .args .qy)
+
+abbrev B : tie.Start → Stretch
+B s = stretch (s .args .kb) (s .args .rx) (s .args .ry) (s .args .sx) (s .args .sy)
+
+-- the stretches as they are handed on
+A-out : (s : tie.Start) → stretch (out (s .args .ka)) (out (s .args .px)) (out (s .args .py)) (out (s .args .qx)) (out (s .args .qy)) ≡ A s
+A-out s = stretch-out (s .fits .ka) (s .fits .px) (s .fits .py) (s .fits .qx) (s .fits .qy)
+
+B-out : (s : tie.Start) → stretch (out (s .args .kb)) (out (s .args .rx)) (out (s .args .ry)) (out (s .args .sx)) (out (s .args .sy)) ≡ B s
+B-out s = stretch-out (s .fits .kb) (s .fits .rx) (s .fits .ry) (s .fits .sx) (s .fits .sy)
+
+sub-dx : tie.Need-sub-dx
+sub-dx c = need (c .pre .near) dxE tt
+
+sub-dy : tie.Need-sub-dy
+sub-dy c = need (c .pre .near) dyE tt
+
+sub-fx : tie.Need-sub-fx
+sub-fx c = need (c .pre .near) fxE tt
+
+sub-fy : tie.Need-sub-fy
+sub-fy c = need (c .pre .near) fyE tt
+
+mul-across : tie.Need-mul-across
+mul-across c = need (c .pre .near) (dxE ⊗ fyE) tt
+
+mul-across-2 : tie.Need-mul-across-2
+mul-across-2 c = need (c .pre .near) (dyE ⊗ fxE) tt
+
+sub-across : tie.Need-sub-across
+sub-across c = need (c .pre .near) acrossE tt
+
+skewed-requires : tie.Need-skewed-requires
+skewed-requires c κs =
+    let s = c .before in
+    let b = s .pre .near in
+    let same = ap₂ (λ (x y : Stretch). cross (x .d) (y .d)) (A-out s) (B-out s) in (
+      record { near = near-out (s .pre); apart = λ e. ne-gives b acrossE (lit 0) tt tt (c .if1 .taken) (sym same ∙ e) },
+      gives b acrossE tt ∙ sym same,
+    )
+
+returns : tie.Need-returns
+returns c =
+    let s = c .before .before in
+    c .skewed .ensures ∙ (λ i. say (skew (A-out s i) (B-out s i)))
+    ∙ ap say (stretches-skew (A s) (B s) (ne-gives (s .pre .near) acrossE (lit 0) tt tt (c .before .if1 .taken)))
+
+sub-ex : tie.Need-sub-ex
+sub-ex c = need (c .before .pre .near) exE tt
+
+sub-ey : tie.Need-sub-ey
+sub-ey c = need (c .before .pre .near) eyE tt
+
+mul-off : tie.Need-mul-off
+mul-off c = need (c .before .pre .near) (dxE ⊗ eyE) tt
+
+mul-off-2 : tie.Need-mul-off-2
+mul-off-2 c = need (c .before .pre .near) (dyE ⊗ exE) tt
+
+sub-off : tie.Need-sub-off
+sub-off c = need (c .before .pre .near) offE tt
+
+returns-2 : tie.Need-returns-2
+returns-2 c =
+    let s = c .before .before in
+    let b = s .pre .near in
+    ap say (stretches-apart (A s) (B s) (eq-gives b acrossE (lit 0) tt tt (c .before .if1 .left)) (ne-gives b offE (lit 0) tt tt (c .if2 .taken)))
+
+together-requires : tie.Need-together-requires
+together-requires c κs = near-out (c .before .before .pre)
+
+returns-3 : tie.Need-returns-3
+returns-3 c =
+    let s = c .before .before .before in
+    let b = s .pre .near in
+    c .together .ensures ∙ (λ i. say (together (A-out s i) (B-out s i)))
+    ∙ ap say (stretches-together (A s) (B s) (eq-gives b acrossE (lit 0) tt tt (c .before .before .if1 .left))
+    (eq-gives b offE (lit 0) tt tt (c .before .if2 .left)))
+
+pub cross-stretches-spec : {M : Type 1} → statement M
+cross-stretches-spec =
+    tie.close
+    (tie.spec
+    sub-dx
+    sub-dy
+    sub-fx
+    sub-fy
+    mul-across
+    mul-across-2
+    sub-across
+    skewed-requires
+    returns
+    sub-ex
+    sub-ey
+    mul-off
+    mul-off-2
+    sub-off
+    returns-2
+    together-requires
+    returns-3)

@@ -1,0 +1,129 @@
+// Two segments, rays or lines: whether they are parallel, and where two that are not meet.
+use crate::divide::divide;
+use crate::oneline::together;
+use sheet::Crossing;
+use sheet::Object;
+use sheet::Point;
+ghost use mathlib.Core.Path.{_≡_};
+ghost use mathlib.Core.List.{_∷_};
+ghost use lib.IntN.{pos, _*ℤ_};
+ghost use Rattle.whole.specs.Sign.{sgn};
+ghost use Rattle.sheet.specs.Points.{divided};
+ghost use Rattle.sheet.specs.Figure.{vec, _⇀_};
+ghost use Rattle.sheet.specs.Crossing.{cross, stretches, skew, meetingPoint};
+ghost use Rattle.sheet.specs.Answers.{meetingNumbers, crossingSays};
+ghost use Rattle.kernel.specs.Bounds.{FourPoints, Apart, TimesSign};
+ghost use Rattle.kernel.specs.Stretches.{stretch, reachesBy};
+
+// The sign of w, which is not 0, times z.
+fn times_sign(w: i64, z: i64) -> i64
+    requires { ⌜ TimesSign w z ⌝ }
+    ensures { λ r. ⌜ r ≡ sgn w *ℤ z ⌝ }
+{
+    if w < 0 {
+        return -z;
+    }
+    z
+}
+
+// Whether an object of this kind has the place p + (h / w) d of its line: not before p but for a line, not beyond q for a segment.
+fn reaches(kind: i64, h: i64, w: i64) -> bool
+    ensures { λ r. ⌜ r ≡ reachesBy kind h w ⌝ }
+{
+    let ahead = (kind == Object::LINE) | (0 <= h);
+    let within = !(kind == Object::SEGMENT) | (h <= w);
+    ahead & within
+}
+
+// The point that the two lines share, with the common divisor out.
+fn meeting_point(px: i64, py: i64, qx: i64, qy: i64, rx: i64, ry: i64, sx: i64, sy: i64) -> Point
+    requires { ⌜ Apart px py qx qy rx ry sx sy ⌝ }
+    ensures { λ r. ⌜ r ≡ divided (meetingPoint (stretch (pos 3) px py qx qy) (stretch (pos 3) rx ry sx sy)) ⌝ }
+{
+    let dx = qx - px;
+    let dy = qy - py;
+    let fx = sx - rx;
+    let fy = sy - ry;
+    let across = dx * fy - dy * fx;
+    let k = qx * py - qy * px;
+    let m = sx * ry - sy * rx;
+    let over = k * fx - m * dx;
+    let up = k * fy - m * dy;
+    let nx = times_sign(across, over);
+    let ny = times_sign(across, up);
+    let w = times_sign(across, across);
+    divide(0, nx, 0, ny, w)
+}
+
+// Not parallel: the lines meet at p + (h / w) d and r + (g / w) f, and a point is shared if both reach it. The cross product of the
+// directions comes from the caller, which has tested it.
+fn skewed(
+    ka: i64,
+    px: i64,
+    py: i64,
+    qx: i64,
+    qy: i64,
+    kb: i64,
+    rx: i64,
+    ry: i64,
+    sx: i64,
+    sy: i64,
+    across: i64,
+) -> Crossing
+    requires { ⌜ Apart px py qx qy rx ry sx sy ⌝ }
+    requires { ⌜ across ≡ cross (vec px py ⇀ vec qx qy) (vec rx ry ⇀ vec sx sy) ⌝ }
+    ensures { λ r. ⌜ crossingSays r ≡ pos 0 ∷ meetingNumbers (skew (stretch ka px py qx qy) (stretch kb rx ry sx sy)) ⌝ }
+{
+    let dx = qx - px;
+    let dy = qy - py;
+    let fx = sx - rx;
+    let fy = sy - ry;
+    let ex = rx - px;
+    let ey = ry - py;
+    let one = ex * fy - ey * fx;
+    let h = times_sign(across, one);
+    let w = times_sign(across, across);
+    if !reaches(ka, h, w) {
+        return Crossing::Nothing;
+    }
+    let two = ex * dy - ey * dx;
+    let g = times_sign(across, two);
+    if !reaches(kb, g, w) {
+        return Crossing::Nothing;
+    }
+    let e = meeting_point(px, py, qx, qy, rx, ry, sx, sy);
+    Crossing::Once(e)
+}
+
+// What two segments, rays or lines share.
+pub fn cross_stretches(
+    ka: i64,
+    px: i64,
+    py: i64,
+    qx: i64,
+    qy: i64,
+    kb: i64,
+    rx: i64,
+    ry: i64,
+    sx: i64,
+    sy: i64,
+) -> Crossing
+    requires { ⌜ FourPoints px py qx qy rx ry sx sy ⌝ }
+    ensures { λ r. ⌜ crossingSays r ≡ pos 0 ∷ meetingNumbers (stretches (stretch ka px py qx qy) (stretch kb rx ry sx sy)) ⌝ }
+{
+    let dx = qx - px;
+    let dy = qy - py;
+    let fx = sx - rx;
+    let fy = sy - ry;
+    let across = dx * fy - dy * fx;
+    if across != 0 {
+        return skewed(ka, px, py, qx, qy, kb, rx, ry, sx, sy, across);
+    }
+    let ex = rx - px;
+    let ey = ry - py;
+    let off = dx * ey - dy * ex;
+    if off != 0 {
+        return Crossing::Nothing;
+    }
+    together(ka, px, py, qx, qy, kb, rx, ry, sx, sy)
+}

@@ -1,0 +1,20 @@
+-- Two answers that meet a function's contract are equal, and so are lent bytes afterwards: stated of the contract itself (`Post`), at any arguments.
+use mathlib.Core.Path.{_≡_, sym, _∙_}
+use mathlib.Core.List.{List}
+use Prim.Native.Nat.{ℕ}
+use contract.Lifetimes.{Lfts}
+use denote.Ref.{RefT}
+use Rattle.number.specs.declared.Number.{Number}
+use Rattle.number.proofs.read_number.Reads as read-number
+use Rattle.number.proofs.put_number.Reads as put-number
+
+pub read-number-answer :
+    (κs : Lfts 1) (bytes : RefT (List ℕ)) (r s : Number)
+    → read-number.Post κs (bytes, tt) r (bytes, tt) → read-number.Post κs (bytes, tt) s (bytes, tt) → r ≡ s
+read-number-answer κs bytes r s p q = p .0 ∙ sym (q .0)
+
+pub put-number-answer :
+    (κs : Lfts 1) (n : ℕ) (out d e : RefT (List ℕ)) (at r s : ℕ)
+    → put-number.Post κs (n, (out, (at, tt))) r (n, (d, (at, tt))) → put-number.Post κs (n, (out, (at, tt))) s (n, (e, (at, tt)))
+    → (r ≡ s) × (d .now ≡ e .now)
+put-number-answer κs n out d e at r s p q = (p .0 .place ∙ sym (q .0 .place), p .0 .cells ∙ sym (q .0 .cells))

@@ -1,0 +1,13 @@
+-- what is to be believed
+pub mod Number
+-- worked on them
+pub mod WorkedNumber
+-- what the code's inner functions say
+pub mod ReadAs
+-- laws
+pub mod GroupsLaws
+pub mod NumberLaws
+pub mod ReadAsLaws
+pub mod ZigzagLaws
+pub mod TripLaws
+pub mod SameLaws

@@ -1,0 +1,44 @@
+-- Two answers that meet a function's contract are equal, and so are the two contents of a lent list afterwards: stated of the
+-- contract itself (`Post`), at any arguments.
+use mathlib.Core.Path.{_≡_, sym, _∙_}
+use mathlib.Core.List.{List}
+use Prim.Native.Nat.{ℕ}
+use lib.IntN.{ℤ}
+use contract.Lifetimes.{Lfts}
+use denote.Ref.{RefT}
+use Rattle.trial.specs.declared.SixNumbers.{SixNumbers}
+use Rattle.trial.proofs.silvanelga_trial_list.Reads as trial-list
+use Rattle.trial.proofs.silvanelga_trial_read.Reads as trial-read
+use Rattle.trial.proofs.silvanelga_trial_write.Reads as trial-write
+use Rattle.trial.proofs.silvanelga_trial_place.Reads as trial-place
+use Rattle.trial.proofs.silvanelga_trial_box.Reads as trial-box
+
+pub trial-list-answer :
+    (κs : Lfts 2) (list rows : RefT (List ℤ)) (r s : ℤ) (l m : RefT (List ℤ))
+    → trial-list.Post κs (list, (rows, tt)) r (list, (l, tt)) → trial-list.Post κs (list, (rows, tt)) s (list, (m, tt))
+    → (r ≡ s) × (l .now ≡ m .now)
+trial-list-answer κs list rows r s l m p q = (p .0 ∙ sym (q .0), p .1 ∙ sym (q .1))
+
+pub trial-read-answer :
+    (κs : Lfts 2) (bytes : RefT (List ℕ)) (list : RefT (List ℤ)) (r s : ℤ) (l m : RefT (List ℤ))
+    → trial-read.Post κs (bytes, (list, tt)) r (bytes, (l, tt)) → trial-read.Post κs (bytes, (list, tt)) s (bytes, (m, tt))
+    → (r ≡ s) × (l .now ≡ m .now)
+trial-read-answer κs bytes list r s l m p q = (p .0 ∙ sym (q .0), p .1 ∙ sym (q .1))
+
+pub trial-write-answer :
+    (κs : Lfts 2) (list : RefT (List ℤ)) (bytes : RefT (List ℕ)) (r s : ℤ) (l m : RefT (List ℕ))
+    → trial-write.Post κs (list, (bytes, tt)) r (list, (l, tt)) → trial-write.Post κs (list, (bytes, tt)) s (list, (m, tt))
+    → (r ≡ s) × (l .now ≡ m .now)
+trial-write-answer κs list bytes r s l m p q = (p .0 ∙ sym (q .0), p .1 ∙ sym (q .1))
+
+pub trial-place-answer :
+    (κs : Lfts 0) (mx nx my ny w : ℤ) (r s : SixNumbers)
+    → trial-place.Post κs (mx, (nx, (my, (ny, (w, tt))))) r (mx, (nx, (my, (ny, (w, tt)))))
+    → trial-place.Post κs (mx, (nx, (my, (ny, (w, tt))))) s (mx, (nx, (my, (ny, (w, tt)))))
+    → r ≡ s
+trial-place-answer κs mx nx my ny w r s p q = p ∙ sym q
+
+pub trial-box-answer :
+    (κs : Lfts 1) (l : RefT (List ℤ)) (r s : SixNumbers)
+    → trial-box.Post κs (l, tt) r (l, tt) → trial-box.Post κs (l, tt) s (l, tt) → r ≡ s
+trial-box-answer κs l r s p q = p ∙ sym q

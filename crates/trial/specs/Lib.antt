@@ -1,0 +1,2 @@
+-- what is to be believed
+pub mod Numbers

@@ -1,0 +1,30 @@
+-- A place or a box as six numbers that C can take by value: the numbers of what is told, in their order, and 0 for those that it has not.
+use mathlib.Core.List.{List}
+use lib.IntN.{ℤ, pos}
+use lib.ListN.{getD}
+use Rattle.sheet.specs.declared.Point.{Point}
+use Rattle.sheet.specs.Points.{pointRefusal}
+use Rattle.screen.specs.Quotient.{zero+}
+use Rattle.screen.specs.Values.{Values, floatAnswer}
+use Rattle.screen.specs.Places.{placeOf}
+use Rattle.sheet.specs.Lists.{listRefusal}
+use Rattle.screen.specs.Boxes.{endsOf, boxOf, boxSays}
+use Rattle.trial.specs.declared.SixNumbers.{SixNumbers}
+
+abbrev pub sixOf : Values → SixNumbers
+sixOf t = record {
+  refusal = getD (t .wholes) 0 (pos 0);
+  number = getD (t .wholes) 1 (pos 0);
+  first = getD (t .floats) 0 zero+;
+  second = getD (t .floats) 1 zero+;
+  third = getD (t .floats) 2 zero+;
+  fourth = getD (t .floats) 3 zero+;
+}
+
+-- of a place, the side number, 0 where it has none, and its two values
+abbrev pub placeAnswer : Point → SixNumbers
+placeAnswer p = sixOf (floatAnswer (pointRefusal p) (placeOf p))
+
+-- of a box, the flag and its four values
+abbrev pub boxAnswer : List ℤ → SixNumbers
+boxAnswer l = sixOf (floatAnswer (listRefusal l) (boxSays (boxOf (endsOf l))))

@@ -1,0 +1,65 @@
+// Calls for bench/ and tests/, so that a C program can time the listing and the stored drawings, and compare places and boxes.
+mod numbers;
+
+use sheet::Point;
+ghost use mathlib.Core.Path.{_≡_};
+ghost use lib.ListN.{length};
+ghost use Rattle.listing.specs.Rows.{rowsOf, sharing};
+ghost use Rattle.sheet.specs.Lent.{filled};
+ghost use Rattle.sheet.specs.Lists.{listRefusal};
+ghost use Rattle.listing.specs.Listing.{listed};
+ghost use Rattle.store.specs.Stored.{readDrawing};
+ghost use Rattle.store.specs.Answers.{readAnswer, readInto, writeAnswer, writeInto};
+ghost use Rattle.trial.specs.Numbers.{placeAnswer, boxAnswer};
+
+// A place or a box: the refusal or 0, the side number or the flag, and the floats, from the front.
+#[repr(C)]
+pub struct SixNumbers {
+    pub refusal: i64,
+    pub number: i64,
+    pub first: f64,
+    pub second: f64,
+    pub third: f64,
+    pub fourth: f64,
+}
+
+#[no_mangle]
+pub extern "C" fn silvanelga_trial_list(list: &[i64], rows: &mut [i64]) -> i64
+    ensures { λ r. ⌜ r ≡ listed (listRefusal (now (list .entry))) (sharing (now (list .entry))) (length (now (rows .entry))) .refusal ⌝ }
+    ensures { λ r. ⌜ now (rows .exit) ≡ filled (listRefusal (now (list .entry))) (rowsOf (now (list .entry))) (now (rows .entry)) ⌝ }
+{
+    let list_refusal = listing::list_all(list, rows).refusal;
+    list_refusal
+}
+
+#[no_mangle]
+pub extern "C" fn silvanelga_trial_read(bytes: &[u8], list: &mut [i64]) -> i64
+    ensures { λ r. ⌜ r ≡ readAnswer (readDrawing (now (bytes .entry))) (now (list .entry)) .refusal ⌝ }
+    ensures { λ r. ⌜ now (list .exit) ≡ readInto (readDrawing (now (bytes .entry))) (now (list .entry)) ⌝ }
+{
+    let read_refusal = store::read_drawing(bytes, list).refusal;
+    read_refusal
+}
+
+#[no_mangle]
+pub extern "C" fn silvanelga_trial_write(list: &[i64], bytes: &mut [u8]) -> i64
+    ensures { λ r. ⌜ r ≡ writeAnswer (now (list .entry)) (now (bytes .entry)) .refusal ⌝ }
+    ensures { λ r. ⌜ now (bytes .exit) ≡ writeInto (now (list .entry)) (now (bytes .entry)) ⌝ }
+{
+    let write_refusal = store::write_drawing(list, bytes).refusal;
+    write_refusal
+}
+
+#[no_mangle]
+pub extern "C" fn silvanelga_trial_place(mx: i64, nx: i64, my: i64, ny: i64, w: i64) -> SixNumbers
+    ensures { λ r. ⌜ r ≡ placeAnswer (record { mx = mx; nx = nx; my = my; ny = ny; w = w }) ⌝ }
+{
+    numbers::of_place(screen::places::place_of(Point { mx, nx, my, ny, w }))
+}
+
+#[no_mangle]
+pub extern "C" fn silvanelga_trial_box(list: &[i64]) -> SixNumbers
+    ensures { λ r. ⌜ r ≡ boxAnswer (now (list .entry)) ⌝ }
+{
+    numbers::of_box(screen::boxes::box_of(list))
+}
