@@ -3,14 +3,13 @@
 --   first-none, none-first          no refusal is found exactly where there is none
 --   one-accepted, one-refused       one more object in turn
 --   Listable, listable, is-listable what a list that is not refused has, and only such a list: no number over, few objects, each accepted
---   from-accepted                   the object at each place of such a list is accepted
 --   object-drop, object-next        the objects of the rest of a list;  object-past   past its end
 --   index-below                     an index that is not refused is below the count
 -- Assumes nothing.
-use mathlib.Core.Path.{_≡_, refl, sym, ap, subst, _∙_}
+use mathlib.Core.Path.{_≡_, refl, sym, ap, _∙_}
 use mathlib.Core.Bool.{Bool, true, false, cond}
 use mathlib.Core.List.{List}
-use Prim.Native.Nat.{ℕ, zero, suc, _+_, _*_, _/_, _%_, _≤_, _<_}
+use Prim.Native.Nat.{ℕ, zero, suc, _+_, _*_, _%_, _≤_, _<_}
 use native.Mathlib.Numerals.{add-one}
 use native.Mathlib.Decide.{le-ind}
 use native.Mathlib.Omega.{arith}
@@ -92,11 +91,6 @@ is-listable l h =
     let whole : length l % width ≡ 0 = omega (arith, h .whole) in
     simp (eq-eqb (length l % width) 0 whole, le-ltb most (countOf l) (h .few))
     (first-none (λ i. objectRefusal (objectAt l i)) (countOf l) (λ i k. h .each i k .accepted))
-
-pub from-accepted : {l : List ℤ} → Listable l → (at : ℕ) → at % width ≡ 0 → at < length l → Accepted (objectFrom l at)
-from-accepted {l} h at e k =
-    let is : at / width * width ≡ at = omega arith in
-    subst (λ (at : ℕ). Accepted (objectFrom l at)) is (h .each (at / width) (omega arith))
 
 -- ---- the rest of a list
 

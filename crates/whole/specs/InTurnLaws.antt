@@ -1,14 +1,13 @@
 -- The laws of things in turn. To cite:
 --   turn-more             one more of them, counted as the code does
 --   between-none, between-more, between-one, between-all   those between two places
---   length-grows, length-most, length-sum, length-below   how long lists are one after another
+--   length-most, length-sum   how long lists are one after another
 --   sum-none, sum-shift   sums
 -- Assumes nothing.
 use mathlib.Core.Path.{_≡_, refl, ap, _∙_}
 use mathlib.Core.List.{List, [], _++_}
 use Prim.Native.Nat.{ℕ, zero, suc, _+_, _-_, _*_, _≤_, _<_}
 use native.Mathlib.Numerals.{add-one}
-use native.Mathlib.Decide.{le-ind}
 use native.Mathlib.Omega.{arith}
 use native.Mathlib.Nat.{zero-add, sub-zero, add-zero, add-suc, suc-mul, add-mul}
 use lib.ListN.{length, length-append}
@@ -22,10 +21,6 @@ turn-more join start f n = ap (inTurn join start f) (add-one n)
 -- ---- lists one after another
 
 module _ {A : Type 0} (f : ℕ → List A) where
-  pub length-grows : (n m : ℕ) → n ≤ m → length (allOf f n) ≤ length (allOf f m)
-  unfolding inTurn
-  length-grows n m h = le-ind (λ k. length (allOf f n) ≤ length (allOf f k)) (omega arith) (λ k _ e. simp length-append (omega arith)) m h
-
   pub length-most : (w : ℕ) → ((k : ℕ) → length (f k) ≤ w) → (n : ℕ) → length (allOf f n) ≤ n * w
   unfolding inTurn
   length-most w h zero = omega arith
@@ -65,8 +60,3 @@ pub sum-shift : (f : ℕ → ℕ) (a n : ℕ) → sumOf f (a + n) ≡ sumOf f a 
 unfolding inTurn
 sum-shift f a zero = ap (sumOf f) (add-zero a) ∙ omega arith
 sum-shift f a (suc n) = ap (sumOf f) (add-suc a n) ∙ omega (arith, sum-shift f a n)
-
-pub length-below : {A : Type 0} (f : ℕ → List A) (g : ℕ → ℕ) (w n : ℕ) → ((i : ℕ) → length (f i) ≤ g i * w) → length (allOf f n) ≤ sumOf g n * w
-unfolding inTurn
-length-below f g w zero h = omega arith
-length-below f g w (suc n) h = simp (length-append, add-mul) (omega (arith, h n, length-below f g w n h))
