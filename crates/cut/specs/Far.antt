@@ -79,7 +79,7 @@ module _ (R w m n : ℤ) (R0 : pos 0 ≤ℤ R) (hw : pos 0 <ℤ w) (nu : n ≤�
         (reify (R ∷ w ∷ m ∷ n ∷ z ∷ []) (λ ρ e. simp (reading, e 0, e 1, e 2, e 3, e 4, val-pos ρ, val-negsuc ρ) (solve _ _ _ tt)));
   }
 
-  held : points.InSquare m n w → Held R w m n
+  held : points.BetweenEdges m n w → Held R w m n
   held (points.inner l) =
       apart (size m) (w-upper (record { within = le-refl (natAbs m) })) (w-lower (record { within = le-refl (natAbs m) })) l
   held (points.on e z) = full e (≤-of (ap (λ (x : ℤ). sgn m *ℤ x) z ∙ *ℤ-zero (sgn m))) (signs m)

@@ -18,7 +18,7 @@ use Rattle.sheet.specs.Points.{X, Y, W}
 use Rattle.sheet.specs.PointFacts.{Narrow, APoint}
 use Rattle.sheet.specs.PointsLaws.{point-sizes}
 use Rattle.sheet.specs.Signs.{turnPoly, turn}
-use Rattle.sheet.specs.Expansions.{det}
+use Rattle.sheet.specs.Coefficients.{det}
 use Rattle.cut.specs.Bounds.{turnNeed}
 use Rattle.cut.specs.Place.{put, Spot, placeOf}
 use Rattle.cut.specs.Ordinary.{determinant, signOf}

@@ -27,7 +27,8 @@ use Rattle.sheet.specs.Signs.{order, turn, sideSign, orderRefusal, turnRefusal,
 use Rattle.sheet.specs.Circle.{sideOfCircle, circleRefusal}
 use Rattle.sheet.specs.CircleLaws.{circle-points}
 use Rattle.sheet.specs.Answers.{answer, endsSay, signedSays, meetingNumbers, crossingSays}
-use Rattle.sheet.specs.AnswersLaws.{by-answer, ends-one, signed-one, crossing-one, crossingBy, crossing-says, meetingBy, crossing-met}
+use Rattle.sheet.specs.Meetings.{crossingBy, meetingBy}
+use Rattle.sheet.specs.AnswersLaws.{by-answer, ends-one, signed-one, crossing-one, crossing-says, crossing-met}
 use Rattle.sheet.specs.AcceptsLaws.{order-taken, turn-taken, side-taken, cross-taken, taken-cross}
 use Rattle.sheet.specs.Crossing.{Meeting, none, point, many, crossingOf, crossingRefusal}
 use Rattle.whole.specs.Order.{≤-trans, <-≤-trans, le-or-lt}

@@ -11,7 +11,7 @@ use Rattle.whole.specs.Flat.{back, within-out}
 use Rattle.whole.specs.Bound.{fits64}
 use Rattle.whole.specs.Tests.{out, Fit, gave}
 use Rattle.sheet.specs.declared.Point.{Point}
-use Rattle.sheet.specs.PointsLaws.{Sizes}
+use Rattle.sheet.specs.Sizes.{Sizes}
 use Rattle.kernel.specs.Bounds.{Coordinate}
 use Rattle.kernel.proofs.Handed.{by-five, pointOf, pointOut}
 

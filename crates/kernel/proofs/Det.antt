@@ -11,7 +11,7 @@ use Rattle.whole.specs.Flat.{All, none, _also_, small, back, within-out}
 use Rattle.whole.specs.Within.{Within}
 use Rattle.whole.specs.Tests.{out}
 use Rattle.sheet.specs.declared.Point.{Point}
-use Rattle.sheet.specs.Expansions.{det}
+use Rattle.sheet.specs.Coefficients.{det}
 use Rattle.kernel.specs.Bounds.{Row, NarrowSizes}
 
 module _ {p : Point} (h : NarrowSizes p) where

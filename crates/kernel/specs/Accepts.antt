@@ -9,7 +9,8 @@ use Rattle.sheet.specs.declared.Object.{Object}
 use Rattle.sheet.specs.declared.Point.{Point}
 use Rattle.sheet.specs.Refusal.{Accepted}
 use Rattle.sheet.specs.Points.{isPoint, narrow}
-use Rattle.sheet.specs.PointsLaws.{Sizes, narrow-is, point-is, point-sizes}
+use Rattle.sheet.specs.Sizes.{Sizes}
+use Rattle.sheet.specs.PointsLaws.{narrow-is, point-is, point-sizes}
 use Rattle.sheet.specs.Signs.{orderRefusal, turnRefusal, sideSignRefusal}
 use Rattle.sheet.specs.AcceptsLaws.{order-taken, turn-taken, side-taken}
 use Rattle.kernel.specs.Bounds.{NarrowSizes}

@@ -30,7 +30,7 @@ use Rattle.sheet.specs.PointsLaws.{divides-w}
 use Rattle.sheet.specs.Limits.{reach}
 use Rattle.sheet.specs.Refusal.{beyond}
 use Rattle.sheet.specs.Points.{size, within}
-use Rattle.sheet.specs.Expansions.{det, turnB}
+use Rattle.sheet.specs.Coefficients.{det, turnB}
 use Rattle.kernel.specs.Bounds.{Raw}
 
 -- |dx| is the larger, or both are equal and sx sy k is 0 or less

@@ -21,8 +21,8 @@ ghost use Rattle.sheet.specs.Figure.{vec};
 ghost use Rattle.sheet.specs.Points.{pointRefusal};
 ghost use Rattle.sheet.specs.Answers.{answer, signedSays};
 ghost use Rattle.sheet.specs.Circle.{sideOfCircle, givenRefusal, circleRefusal};
-ghost use Rattle.sheet.specs.CircleLaws.{Given, Fourth};
-ghost use Rattle.sheet.specs.Angles.{givenForm, frameForm};
+ghost use Rattle.sheet.specs.CirclePoints.{Given, Fourth};
+ghost use Rattle.sheet.specs.CircleForms.{givenForm, frameForm};
 ghost use Rattle.kernel.specs.Bounds.{ThreePoints, FourPoints, Coordinate};
 
 // Of four given points.

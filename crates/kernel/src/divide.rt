@@ -5,7 +5,7 @@ ghost use mathlib.Core.List.{[], _∷_};
 ghost use lib.IntN.{pos};
 ghost use lib.Signed.{quotZ};
 ghost use Rattle.whole.specs.Divisor.{gcdOf};
-ghost use Rattle.whole.specs.DivisorLaws.{EitherWay};
+ghost use Rattle.whole.specs.EitherWay.{EitherWay};
 ghost use Rattle.sheet.specs.Points.{divided};
 ghost use Rattle.kernel.specs.Bounds.{Raw, Part};
 

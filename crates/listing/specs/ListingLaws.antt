@@ -1,6 +1,6 @@
 -- How a listing ends. To cite:
---   lacking, lacks-none, lacks   the length that is needed where the lent list is too short, else 0;  has-room, has-none   what it tells
---   Listing, listing-is          what the rows of accepted objects end with, and that it is what is said of a listing
+--   lacks-none, lacks            the length that is needed where the lent list is too short, else 0;  has-room, has-none   what it tells
+--   listing-is                   what the rows of accepted objects end with is what is said of a listing
 --   listing-refused              a listing that is refused before its rows are looked for
 -- Assumes nothing.
 use mathlib.Core.Path.{_≡_, refl, sym, ap, subst, _∙_}
@@ -16,13 +16,11 @@ use mir.Val.{ofZ}
 use borrow.Author.Tests.{lt-ltb, le-ltb, ltb-true, ltb-false}
 use Rattle.whole.specs.Tests.{Fit, out}
 use Rattle.sheet.specs.Lent.{roomRefusal, otherNumber, lengthGiven, filled}
-use Rattle.sheet.specs.LentLaws.{End, refused}
+use Rattle.sheet.specs.LentLaws.{refused}
 use Rattle.sheet.specs.Lists.{rowWidth}
 use Rattle.listing.specs.declared.Listed.{Listed}
 use Rattle.listing.specs.Listing.{listed}
-
-abbrev pub lacking : ℕ → ℕ → ℕ
-lacking size room = cond (ltb room size) size 0
+use Rattle.listing.specs.Pairs.{lacking, Listing}
 
 pub lacks-none : (size room : ℕ) → size ≤ room → 0 ≡ lacking size room
 lacks-none size room h = simp (le-ltb room size h)
@@ -44,10 +42,6 @@ has-none size room {m} e d = go (ltb room size) (ltb-true room size) e
     go : (t : Bool) → (t ≡ true → room < size) → m ≡ cond t size 0 → (room < size) × (m ≡ size)
     go true f e = (f refl, e)
     go false f e = absurd (d e)
-
--- of a list that is not refused
-abbrev pub Listing : List ℤ → List ℤ → Listed → List ℤ → Type 0
-Listing rows lent a after = End (pos 0) rows lent (length rows) (length rows / rowWidth) (a .refusal) (a .length) (a .rows) after
 
 pub listing-is :
     {r : ℤ} (n : ℕ) (rows : List ℤ) {lent after : List ℤ} {a : Listed} → r ≡ pos 0 → length rows ≡ n * rowWidth → Listing rows lent a after

@@ -1,15 +1,13 @@
 -- The laws of rows. To cite:
---   Pair                   two objects of a list that is not refused
 --   row-once, row-many, row-none   the row of a pair, by what the two share
---   rowsBetween, Between   the rows of the objects from one on before another, each with all later ones
---   pairsOf, pairs-fit     how many pairs n objects have, and that their rows can be counted
---   between-most, between-fits   how long those rows can be
+--   pairs-fit              the pairs of n objects can be counted
+--   between-most, between-fits   how long the rows of the objects from one on before another can be
 --   length-rows-with, length-rows   the rows are as many as the pairs that make one
 -- Assumes nothing.
 use mathlib.Core.Path.{_≡_, refl, sym, ap, _∙_}
 use mathlib.Core.Bool.{Bool, true, false, cond}
 use mathlib.Core.List.{List, [], _∷_, _++_}
-use Prim.Native.Nat.{ℕ, zero, suc, _+_, _-_, _*_, _/_, _≤_, _<_}
+use Prim.Native.Nat.{ℕ, zero, suc, _+_, _-_, _*_, _≤_, _<_}
 use native.Mathlib.Nat.{mul-le-mul, le-mul-of-pos-right, mul-suc, suc-mul}
 use native.Mathlib.Numerals.{add-one}
 use native.Mathlib.Decide.{le-ind}
@@ -18,22 +16,17 @@ use lib.IntN.{ℤ, pos}
 use lib.ListN.{length, length-append}
 use borrow.Author.Tests.{lt-ltb, le-ltb, ltb-true, ltb-false}
 use lib.Dec.{ltb}
-use Rattle.whole.specs.InTurn.{inTurn, allOf, allBetween, sumOf}
+use Rattle.whole.specs.InTurn.{inTurn, allOf, sumOf}
 use Rattle.whole.specs.InTurnLaws.{between-none, between-more, length-most, length-sum, sum-shift, sum-none}
 use Rattle.sheet.specs.declared.Point.{Point}
 use Rattle.sheet.specs.Limits.{most}
 use Rattle.sheet.specs.Points.{numbers}
 use Rattle.sheet.specs.Crossing.{Meeting, none, point, many}
 use Rattle.sheet.specs.Lists.{rowWidth, countOf}
-use Rattle.sheet.specs.ListsLaws.{Listable}
 use Rattle.listing.specs.Rows.{meetingOf, isSome, makesRow, shared, rowOf, rowsWith, rowsOf, pairCount, sharingWith, sharing}
+use Rattle.listing.specs.Pairs.{rowsBetween, Between, pairsOf}
 
 -- ---- one pair
-
-pub record Pair (l : List ℤ) (i j : ℕ) : Type 0 where
-  pub list : Listable l
-  pub one : i < countOf l
-  pub two : j < countOf l
 
 abbrev rowBy : ℕ → ℕ → Meeting → List ℤ
 rowBy i j m = cond (isSome m) (pos i ∷ pos j ∷ shared m) []
@@ -102,20 +95,8 @@ module _ (l : List ℤ) (i : ℕ) where
 
 -- ---- several objects
 
-abbrev pub rowsBetween : List ℤ → ℕ → ℕ → List ℤ
-rowsBetween l from to = allBetween (λ i. rowsWith l i) from to
-
-pub record Between (l : List ℤ) (from to : ℕ) : Type 0 where
-  pub list : Listable l
-  pub order : from ≤ to
-  pub end : to ≤ countOf l
-
 pub length-rows : (l : List ℤ) → length (rowsOf l) ≡ sharing l * rowWidth
 length-rows l = length-sum (λ i. rowsWith l i) (λ i. sharingWith l i) rowWidth (countOf l) (λ i _. length-rows-with l i)
-
--- the pairs of n objects
-abbrev pub pairsOf : ℕ → ℕ
-pairsOf n = (n * n - n) / 2
 
 square-least : (n : ℕ) → n ≤ n * n
 square-least zero = omega arith

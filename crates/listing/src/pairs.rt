@@ -12,10 +12,9 @@ ghost use lib.ListN.{length};
 ghost use Rattle.sheet.specs.Limits.{most};
 ghost use Rattle.sheet.specs.Lent.{Wrote};
 ghost use Rattle.sheet.specs.Lists.{countOf};
-ghost use Rattle.sheet.specs.ListsLaws.{Listable};
+ghost use Rattle.sheet.specs.Listable.{Listable};
 ghost use Rattle.listing.specs.Rows.{rowsWith};
-ghost use Rattle.listing.specs.RowsLaws.{Between, rowsBetween, pairsOf};
-ghost use Rattle.listing.specs.ListingLaws.{lacking, Listing};
+ghost use Rattle.listing.specs.Pairs.{Between, rowsBetween, pairsOf, lacking, Listing};
 
 // The rows of object i with all later ones, from a place of the lent list on. Gives the place behind them.
 fn put_rows_with(list: &[i64], i: usize, out: &mut [i64], at: usize) -> usize

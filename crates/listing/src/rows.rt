@@ -12,10 +12,10 @@ ghost use Rattle.sheet.specs.Refusal.{Accepted};
 ghost use Rattle.sheet.specs.Crossing.{crossingOf};
 ghost use Rattle.sheet.specs.Lent.{largest, Wrote};
 ghost use Rattle.sheet.specs.Lists.{countOf, objectAt};
-ghost use Rattle.sheet.specs.ListsLaws.{Listable};
-ghost use Rattle.sheet.specs.AnswersLaws.{meetingBy};
+ghost use Rattle.sheet.specs.Listable.{Listable};
+ghost use Rattle.sheet.specs.Meetings.{meetingBy};
 ghost use Rattle.listing.specs.Rows.{rowOf};
-ghost use Rattle.listing.specs.RowsLaws.{Pair};
+ghost use Rattle.listing.specs.Pairs.{Pair};
 
 // What an object shares with object j.
 fn meet(a: Object, list: &[i64], j: usize) -> Crossing

@@ -1,5 +1,5 @@
 -- Laws of what a call answers and leaves. To cite:
---   PutEnd, end-as     how a call that puts a text ends (sheet/specs/LentLaws has its three ends); the text in other words
+--   end-as       how a call that puts a text ends, with the text in other words
 --   put-ends     what such an end answers, and what is in the bytes then
 --   clipped-given      a length that is answered is cut at the largest before a refusal makes it 0, or behind: it is the same
 --   no-rows, rows-taken   a list that is no list of rows is refused, and one that is is not
@@ -16,7 +16,7 @@ use lib.ListN.{length, length-append}
 use borrow.Author.Tests.{eq-eqb, ne-eqb}
 use Rattle.whole.specs.Flag.{eqZ}
 use Rattle.sheet.specs.Lent.{lengthGiven, filled, clipped}
-use Rattle.sheet.specs.LentLaws.{End, clipped-is}
+use Rattle.sheet.specs.LentLaws.{clipped-is}
 use Rattle.sheet.specs.Lists.{rowWidth}
 use Rattle.decimal.specs.Decimal.{signed, numberMost}
 use Rattle.decimal.specs.DecimalLaws.{AllFit}
@@ -24,10 +24,7 @@ use Rattle.rowtext.specs.declared.Put.{Put}
 use Rattle.rowtext.specs.Text.{rowsOf, rowsText, countLine}
 use Rattle.rowtext.specs.TextLaws.{rows-short}
 use Rattle.rowtext.specs.Put.{lineMost, rowsRefusal, putAnswer}
-
--- a call that puts a text has answered r and left `after` in the lent bytes: it has no other number
-abbrev pub PutEnd : ℤ → List ℕ → List ℕ → Put → List ℕ → Type 0
-PutEnd n text lent r after = End n text lent (clipped (length text)) 0 (r .refusal) (r .length) 0 after
+use Rattle.rowtext.specs.PutEnd.{PutEnd}
 
 pub end-as : {n : ℤ} {text other lent after : List ℕ} {r : Put} → PutEnd n text lent r after → text ≡ other → PutEnd n other lent r after
 end-as {n} {text} {other} {lent} {after} {r} e q = subst (λ (t : List ℕ). PutEnd n t lent r after) q e

@@ -22,7 +22,7 @@ ghost use Rattle.sheet.specs.Lists.{rowWidth};
 ghost use Rattle.decimal.specs.Decimal.{newline, sized};
 ghost use Rattle.rowtext.specs.Text.{objectsWord, rowsWord, refusedWord, sharedText, rowText, rowsTo, rowsText, countLine};
 ghost use Rattle.rowtext.specs.Put.{rowMost, lineMost, rowsRefusal, putAnswer};
-ghost use Rattle.rowtext.specs.PutLaws.{PutEnd};
+ghost use Rattle.rowtext.specs.PutEnd.{PutEnd};
 
 // 0 and the length of the text, or the number of the refusal. With 10 comes the length needed.
 pub struct Put {

@@ -14,9 +14,10 @@ use Rattle.whole.specs.Laws.{eq-of-sub}
 use Rattle.whole.specs.Within.{Within}
 use Rattle.whole.specs.Bound.{w-self, w-is, w-sub, w-mul, w-lit, natAbs-mul}
 use Rattle.whole.specs.Reify.{reify, reading, solve}
-use Rattle.sheet.specs.PointFacts.{Upto}
+use Rattle.sheet.specs.PointFacts.{Denominator}
 use Rattle.screen.specs.Quotient.{quotient, over, under, Near}
-use Rattle.screen.specs.QuotientLaws.{Parts, quotient-near}
+use Rattle.screen.specs.Parts.{Parts}
+use Rattle.screen.specs.QuotientLaws.{quotient-near}
 
 size-zero : (z : ℤ) → natAbs z ≡ 0 → z ≡ pos 0
 size-zero (pos n) e = ap pos e
@@ -29,7 +30,7 @@ squeezed k d d′ Q h s l l′ =
     let e : k * 2 ^ 53 * Q ≡ k * Q * 2 ^ 53 = mul-right-comm k (2 ^ 53) Q in
     le-of-mul-le-mul-right (le-trans (le-of-eq e) (omega arith)) h
 
-module _ {n w n′ w′ : ℤ} (a : Within 8000000 n) (u : Upto 4000 w) (b : Parts n′ w′) (e : quotient n w ≡ quotient n′ w′) where
+module _ {n w n′ w′ : ℤ} (a : Within 8000000 n) (u : Denominator 4000 w) (b : Parts n′ w′) (e : quotient n w ≡ quotient n′ w′) where
   abbrev x : Float
   x = quotient n w
 

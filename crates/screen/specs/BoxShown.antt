@@ -20,12 +20,14 @@ use Rattle.sheet.specs.declared.Point.{Point}
 use Rattle.sheet.specs.Figure.{Vec}
 use Rattle.sheet.specs.Points.{given, standard}
 use Rattle.sheet.specs.Lists.{countOf, listRefusal}
-use Rattle.sheet.specs.ListsLaws.{Listable, listable}
+use Rattle.sheet.specs.Listable.{Listable}
+use Rattle.sheet.specs.ListsLaws.{listable}
 use Rattle.screen.specs.declared.SheetBox.{SheetBox}
 use Rattle.screen.specs.declared.Boxed.{Boxed}
 use Rattle.screen.specs.declared.Boxed.the-variants.{Around}
 use Rattle.screen.specs.Quotient.{float, Near}
-use Rattle.screen.specs.QuotientLaws.{Parts, quotient-near, over-one}
+use Rattle.screen.specs.Parts.{Parts}
+use Rattle.screen.specs.QuotientLaws.{quotient-near, over-one}
 use Rattle.screen.specs.Values.{refusal, floatAnswer}
 use Rattle.screen.specs.Boxes.{endsAt, endsOf, part, extreme, isNone, boxOf, boxSays, boxedSays}
 use Rattle.screen.specs.BoxesLaws.{box-one, ends-small, extreme-within}

@@ -1,7 +1,7 @@
 -- The laws of the box. To cite:
 --   box-one                    no two answers say the same
 --   farthest-two               the farthest of one list and then of another
---   stepped, steppedBy, ends-step   the farthest so far with the standard ends of one more object: by its numbers, by flags of its kind
+--   ends-step                  the farthest so far with the standard ends of one more object, by its numbers
 --   AllSmall, ends-small       the standard ends of accepted objects are within 2,000
 --   beyondAll, from-beyond     a number beyond all coordinates to begin with
 --   extreme-within             the lowest and the highest are within 2,000
@@ -24,7 +24,7 @@ use Rattle.sheet.specs.declared.Object.{Object}
 use Rattle.sheet.specs.Figure.{Vec, vec, Figure, segment, ray, line, side, sideOf, figure, figureOf}
 use Rattle.sheet.specs.Refusal.{Accepted}
 use Rattle.sheet.specs.Lists.{countOf, objectAt}
-use Rattle.sheet.specs.ListsLaws.{Listable}
+use Rattle.sheet.specs.Listable.{Listable}
 use Rattle.sheet.specs.RefusalLaws.{WithinBoth, Taken, a-segment, a-ray, a-line, a-side, accepted-taken}
 use Rattle.screen.specs.declared.SheetBox.{SheetBox}
 use Rattle.screen.specs.declared.Boxed.{Boxed}
@@ -32,6 +32,7 @@ use Rattle.screen.specs.declared.Boxed.the-variants.{Around, Refused}
 use Rattle.screen.specs.Values.{Values}
 use Rattle.screen.specs.ValuesLaws.{as-many}
 use Rattle.screen.specs.Boxes.{standardEnds, endsAt, endsOf, passes, farther, part, farthest, extreme, isNone, flag, boxSays, boxedSays}
+use Rattle.screen.specs.ByNumber.{steppedBy, stepped}
 
 -- ---- no two answers say the same
 
@@ -66,12 +67,6 @@ pub farthest-two : (up : Bool) (axis : ℕ) (z : ℤ) (us vs : List Vec) → far
 unfolding farthest
 farthest-two up axis z [] vs = refl
 farthest-two up axis z (u ∷ us) vs = farthest-two up axis (farther up z (part axis u)) us vs
-
-abbrev pub steppedBy : Bool → ℤ → ℤ → ℤ → Bool → Bool → ℤ
-steppedBy up z p q s t = cond s (farther up (farther up z p) q) (cond t (farther up z p) z)
-
-abbrev pub stepped : Bool → ℤ → ℤ → ℤ → ℤ → ℤ
-stepped up z kind p q = steppedBy up z p q (eqZ kind (pos 1)) (eqZ kind (pos 2))
 
 -- the figure by the flags of the kinds
 abbrev figureBy : ℤ → Vec → Vec → Bool → Bool → Bool → Figure

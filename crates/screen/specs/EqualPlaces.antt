@@ -20,7 +20,7 @@ use Rattle.sheet.specs.PointFacts.{Standard, Narrow, Frame, APoint, a-standard,
 use Rattle.sheet.specs.PointsLaws.{standard-is, narrow-is, point-is, point-sizes, in-proportion}
 use Rattle.screen.specs.declared.OnScreen.{OnScreen}
 use Rattle.screen.specs.Quotient.{quotient}
-use Rattle.screen.specs.QuotientLaws.{Parts}
+use Rattle.screen.specs.Parts.{Parts}
 use Rattle.screen.specs.Values.{Values, floatAnswer}
 use Rattle.screen.specs.ValuesLaws.{as-many, as-many-wholes}
 use Rattle.screen.specs.Places.{placeSays, isOn, goesTo, sideWhere, mAlong, nAlong, positionOf, edgeOf, placeOf}

@@ -6,6 +6,9 @@ pub mod Boxes
 pub mod Shown
 -- worked on them
 pub mod Worked
+-- what the code's inner functions say
+pub mod Parts
+pub mod ByNumber
 -- laws: floats
 pub mod Rounding
 pub mod QuotientLaws

@@ -9,7 +9,8 @@ use Rattle.sheet.specs.Points.{isPoint, pointRefusal}
 use Rattle.sheet.specs.PointFacts.{APoint, a-standard, a-frame}
 use Rattle.sheet.specs.PointsLaws.{standard-is, point-is}
 use Rattle.screen.specs.declared.OnScreen.{OnScreen}
-use Rattle.screen.specs.QuotientLaws.{Parts, quotient-near}
+use Rattle.screen.specs.Parts.{Parts}
+use Rattle.screen.specs.QuotientLaws.{quotient-near}
 use Rattle.screen.specs.Values.{floatAnswer}
 use Rattle.screen.specs.Places.{placeSays, sideWhere, placeOf}
 use Rattle.screen.specs.PlacesLaws.{place-one, side-where, frame-standard, place-standard, place-frame, ratios, along-by}

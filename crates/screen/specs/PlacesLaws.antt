@@ -4,13 +4,13 @@
 --   side-only       and it is so of no other side
 --   sideBy          `sideWhere` by the flags of the four sides
 --   Ratios, ratios  the numbers of a point that are divided are within the limits
---   alongNumber, along-is   the coordinate along a side, by the side's number;  along-by   what holds of x and of y holds of it
+--   along-is        the coordinate along a side, by the side's number;  along-by   what holds of x and of y holds of it
 --   flat-is         a point is standard exactly where mx and my are 0;  frame-standard   on the frame it is not
 --   place-standard, place-frame   the place by whether the point is standard
 -- Assumes nothing.
 use mathlib.Core.Path.{_≡_, refl, sym, _∙_, ap, ap₂}
 use mathlib.Core.Logic.{_⊎_, inl, inr}
-use mathlib.Core.Bool.{Bool, true, false, cond, not, _&&_, _||_, true≢false}
+use mathlib.Core.Bool.{Bool, true, false, cond, not, _&&_, true≢false}
 use Prim.Native.Nat.{ℕ, suc}
 use native.Mathlib.Omega.{arith}
 use lib.IntN.{ℤ, pos, negsuc, negℤ, natAbs}
@@ -28,10 +28,11 @@ use Rattle.sheet.specs.PointFacts.{Standard, OnEdge, Frame, APoint, a-standard,
 use Rattle.sheet.specs.PointsLaws.{point-sizes, standard-is}
 use Rattle.screen.specs.declared.OnScreen.{OnScreen}
 use Rattle.screen.specs.declared.OnScreen.the-variants.{At, Edge, Refused}
-use Rattle.screen.specs.QuotientLaws.{Parts}
+use Rattle.screen.specs.Parts.{Parts}
 use Rattle.screen.specs.Values.{Values}
 use Rattle.screen.specs.ValuesLaws.{as-many, as-many-wholes}
 use Rattle.screen.specs.Places.{placeSays, exactly, isOn, goesTo, sideWhere, along, positionOf, edgeOf, placeOf}
+use Rattle.screen.specs.ByNumber.{alongNumber}
 
 -- ---- no two places say the same
 
@@ -172,9 +173,6 @@ module _ {p : Point} (f : Frame p) where
       only s (isOn left p) (isOn bottom p) (isOn right p) (isOn top p) not-opposite-x not-opposite-y (sym (goes-is s p) ∙ e)
 
 -- ---- the coordinate along a side, by its number
-
-abbrev pub alongNumber : ℤ → ℤ → ℤ → ℤ
-alongNumber n x y = cond (eqZ n (pos 1) || eqZ n (pos 3)) y x
 
 pub along-is : (s : Side) (x y : ℤ) → alongNumber (sideNumber s) x y ≡ along s x y
 along-is left x y = refl

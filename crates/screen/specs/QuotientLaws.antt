@@ -1,5 +1,5 @@
 -- The quotient of two whole numbers as floats is the fraction, rounded once, and it is within one part in 2 ^ 53 of the fraction. To cite:
---   Parts, quotient-near   two numbers within the limits of points; `Near` of their quotient
+--   quotient-near   `Near` of the quotient of two numbers within the limits of points
 --   in-float, parts-out   what a cast to f64 asks of a number out of a local; the parts as they come out of locals
 --   float-zero, float-exact   0 is +0; a whole number is a float exactly;  over-one  n / 1 is n as a float
 -- Assumes nothing.
@@ -25,14 +25,9 @@ use Rattle.whole.specs.Bound.{natAbs-neg}
 use Rattle.whole.specs.Tests.{out}
 use Rattle.whole.specs.Flat.{back}
 use Rattle.whole.specs.Reify.{reify, reading, solve}
-use Rattle.sheet.specs.PointFacts.{Upto}
 use Rattle.screen.specs.Quotient.{float, quotient, zero+, signed, Near}
+use Rattle.screen.specs.Parts.{Parts}
 use Rattle.screen.specs.Rounding.{Close, grid-close}
-
--- the numbers that are divided: those of points
-pub record Parts (n w : ℤ) : Type 0 where
-  pub in-n : Within 64000000000 n
-  pub in-w : Upto 32000000 w
 
 -- below 0
 abbrev pub minus : ℤ → Bool

@@ -16,7 +16,7 @@ ghost use Rattle.sheet.specs.Lists.{listRefusal};
 ghost use Rattle.screen.specs.Quotient.{float};
 ghost use Rattle.screen.specs.Values.{floatAnswer};
 ghost use Rattle.screen.specs.Boxes.{standardEnds, endsOf, farther, part, farthest, boxOf, boxSays, boxedSays};
-ghost use Rattle.screen.specs.BoxesLaws.{stepped};
+ghost use Rattle.screen.specs.ByNumber.{stepped};
 
 // The higher of two numbers where up is true, else the lower.
 fn pick(up: bool, a: i64, b: i64) -> i64

@@ -8,10 +8,10 @@ ghost use Rattle.sheet.specs.Points.{pointRefusal};
 ghost use Rattle.sheet.specs.PointFacts.{APoint};
 ghost use Rattle.sheet.specs.Figure.{sideNumber};
 ghost use Rattle.screen.specs.Quotient.{quotient};
-ghost use Rattle.screen.specs.QuotientLaws.{Parts};
+ghost use Rattle.screen.specs.Parts.{Parts};
 ghost use Rattle.screen.specs.Values.{floatAnswer};
 ghost use Rattle.screen.specs.Places.{exactly, sideWhere, edgeOf, placeOf, placeSays};
-ghost use Rattle.screen.specs.PlacesLaws.{alongNumber};
+ghost use Rattle.screen.specs.ByNumber.{alongNumber};
 
 // A coordinate (m R + n)/v is exactly R.
 fn is_exactly(m: i64, n: i64, v: i64) -> bool

@@ -2,7 +2,7 @@
 ghost use mathlib.Core.Path.{_≡_};
 ghost use Rattle.whole.specs.Within.{Within};
 ghost use Rattle.screen.specs.Quotient.{float, quotient, Near};
-ghost use Rattle.screen.specs.QuotientLaws.{Parts};
+ghost use Rattle.screen.specs.Parts.{Parts};
 
 // n / w, rounded once.
 pub fn ratio(n: i64, w: i64) -> f64

@@ -2,10 +2,9 @@
 --   turn(p, q, s) (q - u)(s - u) - turn(u, q, s) (q - p)(s - p),
 -- with inner products for the brackets: that is the sine of the angle under which q and s are seen from p, less that under which they are
 -- seen from u, times lengths. A frame point is far: (q - u)(s - u) outweighs all the rest, and turn(p, q, s) decides unless it is 0. To cite:
---   turns, inner                     the turn and the inner product of two places seen from a third
 --   circleNeed                       from which R on the sign does not change
---   givenForm, by-given              the side of circle of a given u
---   frameForm, by-frame              of a frame point
+--   by-given                         the side of circle of a given u
+--   by-frame                         of a frame point
 --   circle-settled                   of four points that are not refused, the sign at every R above circleNeed is the side of circle
 -- Assumes nothing.
 use mathlib.Core.Path.{_≡_, refl, sym, _∙_, ap, ap₂, subst}
@@ -30,25 +29,19 @@ use Rattle.whole.specs.Choice.{orElse}
 use Rattle.whole.specs.ChoiceLaws.{or-ne}
 use Rattle.whole.specs.Lead.{outweighs, small, lead-step, leading-settled}
 use Rattle.sheet.specs.declared.Point.{Point}
-use Rattle.sheet.specs.Figure.{Vec, _⇀_}
+use Rattle.sheet.specs.Figure.{Vec}
 use Rattle.sheet.specs.RefusalLaws.{WithinBoth}
 use Rattle.sheet.specs.Points.{given}
 use Rattle.sheet.specs.PointFacts.{OnEdge, Frame}
 use Rattle.sheet.specs.PointsLaws.{square-within}
 use Rattle.sheet.specs.Signs.{turn}
-use Rattle.sheet.specs.Crossing.{cross, dot}
 use Rattle.sheet.specs.Expansions.{sideB, sideC, pair-side-is}
+use Rattle.sheet.specs.CircleForms.{turns, inner, givenForm, frameForm}
 use Rattle.sheet.specs.Circle.{circlePoly, sideOfCircle}
-use Rattle.sheet.specs.CircleLaws.{Over, overAt, circleZ, circle-value, Given, given-is, givenPlace, given-small, Fourth, a-given, on-frame, Four}
+use Rattle.sheet.specs.CirclePoints.{Given, Fourth, a-given, on-frame}
+use Rattle.sheet.specs.CircleLaws.{Over, overAt, circleZ, circle-value, given-is, givenPlace, given-small, Four}
 
 -- ---- the identity
-
--- q and s seen from p
-abbrev pub turns : Vec → Vec → Vec → ℤ
-turns p q s = cross (p ⇀ q) (p ⇀ s)
-
-abbrev pub inner : Vec → Vec → Vec → ℤ
-inner p q s = dot (p ⇀ q) (p ⇀ s)
 
 -- q and s seen from (X/w, Y/w): their inner product, w w times, and the turn of q, s and that place, w times
 abbrev innerOver : Vec → Vec → ℤ → ℤ → ℤ → ℤ
@@ -89,9 +82,6 @@ module _ {p q s : Point} (a : Given p) (b : Given q) (c : Given s) where
       ∙ by-angles (givenPlace p) (givenPlace q) (givenPlace s) (u .w) (u .mx *ℤ R +ℤ u .nx) (u .my *ℤ R +ℤ u .ny)
 
 -- ---- a given point
-
-abbrev pub givenForm : Vec → Vec → Vec → Vec → ℤ
-givenForm p q s u = turns p q s *ℤ inner u q s -ℤ inner p q s *ℤ turns u q s
 
 from-given : (p q s u : Vec) → angles p q s (pos 1) (u .x) (u .y) ≡ givenForm p q s u
 from-given p q s u =
@@ -182,9 +172,6 @@ module _ {p q s : Vec} (hp : WithinBoth 2000 p) (hq : WithinBoth 2000 q) (hs : W
         (times (natAbs t) _ _ (ltb→lt 0 (natAbs t) (size-above n .lt)))) l
 
 -- ---- a frame point
-
-abbrev pub frameForm : Vec → Vec → Vec → Point → ℤ
-frameForm p q s u = orElse (sgn (turns p q s)) (negℤ (sgn (inner p q s) *ℤ turn (given q) (given s) u))
 
 -- (m R + 0)² is (w R)²
 edge-square : (m n w R : ℤ) → OnEdge m n w → (m *ℤ R +ℤ n) *ℤ (m *ℤ R +ℤ n) ≡ (w *ℤ R) *ℤ (w *ℤ R)

@@ -6,8 +6,8 @@
 --   refused-first, refused-next   the first that finds something, from the code's test; what comes after one that finds nothing
 --   object-one, point-one       no two objects, and no two points, have the same five numbers
 --   made-one, ends-one, signed-one, crossing-one   no two values of an answer say the same numbers
---   crossingBy, crossing-says             what two objects share as it is answered
---   meetingBy, crossing-met, met-by an answer as what they share; and back
+--   crossing-says               what two objects share as it is answered
+--   crossing-met, met-by        an answer as what they share; and back
 -- Assumes nothing.
 use mathlib.Core.Path.{_≡_, refl, sym, _∙_, ap, ap₂, subst}
 use mathlib.Core.List.{List, [], _∷_}
@@ -32,6 +32,7 @@ use Rattle.whole.specs.Choice.{orElse}
 use Rattle.whole.specs.ChoiceLaws.{or-first, or-next}
 use Rattle.sheet.specs.Crossing.{Meeting, none, point, many}
 use Rattle.sheet.specs.Answers.{answer, objectNumbers, madeSays, endsSay, signedSays, meetingNumbers, crossingSays}
+use Rattle.sheet.specs.Meetings.{crossingBy, meetingBy}
 
 pub accepted : {n : ℤ} (values : List ℤ) → n ≡ pos 0 → answer n values ≡ pos 0 ∷ values
 accepted {n} values e = simp (eq-eqZ e)
@@ -131,22 +132,10 @@ crossing-one (crossing.Refused n) (crossing.Refused m) e = let e1 : n ≡ m = cc
 
 -- ---- a crossing as it is answered, and back
 
-abbrev pub crossingBy : Meeting → Crossing
-crossingBy none = crossing.Nothing
-crossingBy (point p) = crossing.Once p
-crossingBy many = crossing.Many
-
 pub crossing-says : (m : Meeting) → crossingSays (crossingBy m) ≡ pos 0 ∷ meetingNumbers m
 crossing-says none = refl
 crossing-says (point p) = refl
 crossing-says many = refl
-
--- of accepted objects the kernel never refuses
-abbrev pub meetingBy : Crossing → Meeting
-meetingBy crossing.Nothing = none
-meetingBy (crossing.Once p) = point p
-meetingBy crossing.Many = many
-meetingBy (crossing.Refused n) = none
 
 pub crossing-met : (m : Meeting) → meetingBy (crossingBy m) ≡ m
 crossing-met none = refl

@@ -2,9 +2,9 @@
 --   Over, overAt, minorZ, circleZ, circle-value   the value at R is the determinant of whole numbers, of w, X and Y of each point
 --   circle-swap-first, circle-swap-middle, circle-swap-last   changing over two neighbours negates the sign
 --   circle-repeats                         where two of the four points are equal it is 0
---   Given, given-is, givenPlace, given-small   a given point: where the definition is true; its place, and how large that is
+--   given-is, givenPlace, given-small      a given point: where the definition is true; its place, and how large that is
 --   given-taken                            it is not refused as a point
---   Fourth, not-given                      the fourth is a given point or one of the frame
+--   not-given                              a fourth point that is no given one is one of the frame
 --   circle-points, Four, circle-taken      what four points are that are not refused
 --   refusal-swap-first, refusal-swap-middle   changing over two of the first three keeps the refusal
 -- Assumes nothing.
@@ -15,14 +15,12 @@ use Prim.Native.Nat.{zero, suc}
 use native.Mathlib.Omega.{arith}
 use lib.IntN.{ℤ, pos, negsuc, negℤ, _+ℤ_, _-ℤ_, _*ℤ_, negℤ-negℤ, pos-ne-negsuc}
 use Rattle.whole.specs.Reify.{reify, reading, solve}
-use Rattle.whole.specs.Within.{Within}
 use Rattle.whole.specs.Bound.{w-intro}
 use Rattle.whole.specs.Poly.{Poly, value, _⊞_, _⊠_}
 use Rattle.whole.specs.PolyLaws.{value-one, value-two, value-sum, value-opposite, value-product}
 use Rattle.whole.specs.Lead.{leading-opposed}
 use Rattle.sheet.specs.declared.Point.{Point}
 use Rattle.sheet.specs.Figure.{Vec}
-use Rattle.sheet.specs.Limits.{reachSize}
 use Rattle.sheet.specs.Flags.{flags}
 use Rattle.sheet.specs.Points.{X, Y, W, standard, isPoint, pointRefusal, given}
 use Rattle.sheet.specs.PointFacts.{Frame, APoint, a-standard, a-frame}
@@ -32,8 +30,9 @@ use Rattle.sheet.specs.EndsLaws.{given-fine}
 use Rattle.whole.specs.Choice.{orElse}
 use Rattle.whole.specs.ChoiceLaws.{or-zero}
 use Rattle.sheet.specs.AcceptsLaws.{passed, point-taken}
-use Rattle.sheet.specs.Expansions.{det}
+use Rattle.sheet.specs.Coefficients.{det}
 use Rattle.sheet.specs.Circle.{Column, fourByFour, circlePoly, sideOfCircle, isGiven, givenRefusal, circleRefusal, Repeats, first-second, first-third, first-fourth, second-third, second-fourth, third-fourth}
+use Rattle.sheet.specs.CirclePoints.{Given, Fourth, a-given, on-frame}
 
 -- ---- the value at R
 
@@ -139,13 +138,6 @@ circle-repeats p q s u (third-fourth e) = twice-last p q s u e
 
 -- ---- which points are taken
 
-pub record Given (p : Point) : Type 0 where
-  pub no-mx : p .mx ≡ pos 0
-  pub no-my : p .my ≡ pos 0
-  pub one : p .w ≡ pos 1
-  pub in-nx : Within reachSize (p .nx)
-  pub in-ny : Within reachSize (p .ny)
-
 pub given-is : (p : Point) → isGiven p ≡ true → Given p
 unfolding isGiven
 given-is p h =
@@ -168,11 +160,6 @@ unfolding pointRefusal
 given-taken p h =
     let g = given-is p h in
     ap (λ (t : Bool). cond t (pos 0) (pos 5)) (ap isPoint (given-same g) ∙ point-is (given (givenPlace p)) .1 (given-fine (given-small g) .point))
-
--- the fourth is a given point or one of the frame
-pub data Fourth (u : Point) : Type 0 where
-  a-given : isGiven u ≡ true → Fourth u
-  on-frame : Frame u → Fourth u
 
 pub not-given : {u : Point} → Fourth u → isGiven u ≡ false → Frame u
 not-given (a-given g) e = absurd (true≢false (sym g ∙ e))

@@ -33,7 +33,7 @@ use Rattle.sheet.specs.Refusal.{Accepted}
 use Rattle.sheet.specs.Points.{size, given, divisor, isPoint, narrow}
 use Rattle.sheet.specs.Ends.{moment, flat, steep, farRaw, farEnd, reverse, corner, begins, nextSide, firstOf, lastOf, firstEnd, lastEnd}
 use Rattle.sheet.specs.RefusalLaws.{WithinBoth, Proper, Drawn, draw-segment, draw-ray, draw-line, draw-side, accepted-drawn}
-use Rattle.sheet.specs.PointFacts.{Narrow, InSquare, inner, on, beside, Frame, APoint, a-standard, a-frame}
+use Rattle.sheet.specs.PointFacts.{Narrow, BetweenEdges, inner, on, beside, Frame, APoint, a-standard, a-frame}
 use Rattle.sheet.specs.PointsLaws.{divides-w, divided-one, narrow-is, point-is, frame-divided}
 
 -- ---- which form the far end has
@@ -57,7 +57,7 @@ far dx dy k = go (tri (size dy) (size dx)) (le-or-lt (sgn dx *ℤ sgn dy *ℤ k)
 -- ---- the frame facts before the division
 
 -- |m| = w, and n is 0 or of the sign opposite to m
-tie-square : (m n w : ℤ) → size m ≡ w → pos 0 <ℤ w → (sgn m *ℤ n) ≤ℤ pos 0 → InSquare m n w
+tie-square : (m n w : ℤ) → size m ≡ w → pos 0 <ℤ w → (sgn m *ℤ n) ≤ℤ pos 0 → BetweenEdges m n w
 tie-square m n w e hw t = go (signs n) (signs m)
   where
     times : {s : ℤ} → sgn m ≡ s → (s *ℤ n) ≤ℤ pos 0
@@ -66,7 +66,7 @@ tie-square m n w e hw t = go (signs n) (signs m)
     still : m ≡ pos 0 → ⊥
     still z = clashℤ hw (≤-of (sym e ∙ ap size z))
 
-    go : Signs n → Signs m → InSquare m n w
+    go : Signs n → Signs m → BetweenEdges m n w
     go (nought z en) h = on e z
     go (plus hn en) (plus hm em) = clashℤ hn (≤-trans (≤-of (sym (one-mul n))) (times em))
     go (plus hn en) (nought z em) = absurd (still z)
@@ -84,7 +84,7 @@ pub record Way (dx dy k : ℤ) : Type 0 where
   pub moves : dx ≡ pos 0 → dy ≡ pos 0 → ⊥
 
 flat-frame : (dx dy k : ℤ) → Within 4000 dx → Within 8000000 k → pos 0 <ℤ size dx
-    → InSquare dy (sgn dx *ℤ k) (size dx) → Frame (flat dx dy k)
+    → BetweenEdges dy (sgn dx *ℤ k) (size dx) → Frame (flat dx dy k)
 flat-frame dx dy k hx hk above i = record {
   slim = record {
     in-w = record { above = above; at-most = w-size hx };
@@ -116,7 +116,7 @@ steep-over : (dx dy k : ℤ) → over (flat dy dx (negℤ k)) ≡ steep dx dy k
 steep-over dx dy k = λ i. record { mx = dx; nx = mul-neg (sgn dy) k i; my = sgn dy *ℤ size dy; ny = pos 0; w = size dy }
 
 steep-frame : (dx dy k : ℤ) → Within 4000 dy → Within 8000000 k → pos 0 <ℤ size dy
-    → InSquare dx (sgn dy *ℤ negℤ k) (size dy) → Frame (steep dx dy k)
+    → BetweenEdges dx (sgn dy *ℤ negℤ k) (size dy) → Frame (steep dx dy k)
 steep-frame dx dy k hy hk above i = subst Frame (steep-over dx dy k) (over-frame (flat-frame dy dx (negℤ k) hy (w-neg hk) above i))
 
 -- equal sizes that are not both 0

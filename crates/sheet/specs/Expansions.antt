@@ -1,6 +1,6 @@
 -- The signs of order, turn and side as signs of plain whole numbers, for code. To cite:
---   det, turnA, turnB, turnC, turn-poly-is, turn-is   turn is the first of three signs that is not 0: the coefficients of R R, R and 1
---   orderX, orderY, order-is       order: mx, nx, my, ny over a common w
+--   turn-poly-is, turn-is          turn is the first of three signs that is not 0: the coefficients of R R, R and 1
+--   order-is                       order: mx, nx, my, ny over a common w
 --   turn-by                        the same from other words for the three
 --   sideB, sideC, pair-side-is     the side of a segment, ray or line (all three compute to this turn)
 --   left-side-is, bottom-side-is, right-side-is, top-side-is   the side of each frame side
@@ -23,37 +23,15 @@ use Rattle.sheet.specs.Figure.{Vec, _⇀_, Side, left, bottom, right, to
 use Rattle.sheet.specs.Points.{given}
 use Rattle.sheet.specs.Ends.{moment, begins}
 use Rattle.sheet.specs.Signs.{order, turnPoly, turn, sideOfFigure, sideSign}
+use Rattle.sheet.specs.Coefficients.{orderX, orderY, turnA, turnB, turnC}
 
 -- ---- order
-
-abbrev pub orderX : Point → Point → ℤ
-orderX p q = orElse (sgn (p .mx *ℤ q .w -ℤ q .mx *ℤ p .w)) (sgn (p .nx *ℤ q .w -ℤ q .nx *ℤ p .w))
-
-abbrev pub orderY : Point → Point → ℤ
-orderY p q = orElse (sgn (p .my *ℤ q .w -ℤ q .my *ℤ p .w)) (sgn (p .ny *ℤ q .w -ℤ q .ny *ℤ p .w))
 
 pub order-is : (p q : Point) → order p q ≡ orElse (orderX p q) (orderY p q)
 unfolding order
 order-is p q = simp +ℤ-idr
 
 -- ---- turn
-
-abbrev pub det : ℤ → ℤ → ℤ → ℤ → ℤ → ℤ → ℤ → ℤ → ℤ → ℤ
-det w1 x1 y1 w2 x2 y2 w3 x3 y3 =
-    w1 *ℤ (x2 *ℤ y3 -ℤ x3 *ℤ y2) -ℤ w2 *ℤ (x1 *ℤ y3 -ℤ x3 *ℤ y1) +ℤ w3 *ℤ (x1 *ℤ y2 -ℤ x2 *ℤ y1)
-
--- the coefficient of R in X Y′ - X′ Y
-abbrev pub mixed : Point → Point → ℤ
-mixed p q = p .nx *ℤ q .my +ℤ p .mx *ℤ q .ny -ℤ (q .nx *ℤ p .my +ℤ q .mx *ℤ p .ny)
-
-abbrev pub turnA : Point → Point → Point → ℤ
-turnA p q s = det (p .w) (p .mx) (p .my) (q .w) (q .mx) (q .my) (s .w) (s .mx) (s .my)
-
-abbrev pub turnB : Point → Point → Point → ℤ
-turnB p q s = p .w *ℤ mixed q s -ℤ q .w *ℤ mixed p s +ℤ s .w *ℤ mixed p q
-
-abbrev pub turnC : Point → Point → Point → ℤ
-turnC p q s = det (p .w) (p .nx) (p .ny) (q .w) (q .nx) (q .ny) (s .w) (s .nx) (s .ny)
 
 -- the determinant's coefficients, the lowest first
 pub turn-poly-is : (p q s : Point) → turnPoly p q s ≡ turnC p q s ∷ turnB p q s ∷ turnA p q s ∷ []

@@ -20,6 +20,13 @@ pub mod WorkedRefusals
 pub mod WorkedAnswers
 pub mod WorkedReach
 pub mod WorkedCircle
+-- what the code's inner functions say
+pub mod Sizes
+pub mod Coefficients
+pub mod CirclePoints
+pub mod CircleForms
+pub mod Meetings
+pub mod Listable
 -- laws: objects and points
 pub mod Flags
 pub mod RefusalLaws

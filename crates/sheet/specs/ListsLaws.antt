@@ -2,7 +2,7 @@
 --   first-more, first-stays         one more number in turn; a refusal that is found stays the first
 --   first-none, none-first          no refusal is found exactly where there is none
 --   one-accepted, one-refused       one more object in turn
---   Listable, listable, is-listable what a list that is not refused has, and only such a list: no number over, few objects, each accepted
+--   listable, is-listable           what a list that is not refused has, and only such a list: no number over, few objects, each accepted
 --   object-drop, object-next        the objects of the rest of a list;  object-past   past its end
 --   index-below                     an index that is not refused is below the count
 -- Assumes nothing.
@@ -21,10 +21,11 @@ use borrow.Author.Tests.{ltb-true, ltb-false, le-ltb, eq-eqb, eqb-true}
 use Rattle.whole.specs.InTurn.{inTurn}
 use Rattle.whole.specs.Tests.{eq-eqZ, ne-eqZ}
 use Rattle.sheet.specs.Limits.{most}
-use Rattle.sheet.specs.Refusal.{objectRefusal, Accepted}
+use Rattle.sheet.specs.Refusal.{objectRefusal}
 use Rattle.whole.specs.Choice.{orElse}
 use Rattle.whole.specs.ChoiceLaws.{or-zero}
 use Rattle.sheet.specs.Lists.{width, countOf, objectFrom, objectAt, firstRefusal, objectsRefusal, listRefusal, indexRefusal}
+use Rattle.sheet.specs.Listable.{Listable}
 
 -- ---- in turn
 
@@ -65,11 +66,6 @@ module _ (l : List ℤ) (i : ℕ) (e : objectsRefusal l i ≡ pos 0) where
       sym (first-stays f (i + 1) n (omega arith) (λ z. d (sym here ∙ z)) ∙ here)
 
 -- ---- lists that are not refused
-
-pub record Listable (l : List ℤ) : Type 0 where
-  pub whole : countOf l * width ≡ length l
-  pub few : countOf l ≤ most
-  pub each : (i : ℕ) → i < countOf l → Accepted (objectAt l i)
 
 pub listable : (l : List ℤ) → listRefusal l ≡ pos 0 → Listable l
 unfolding listRefusal

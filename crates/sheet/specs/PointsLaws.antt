@@ -6,7 +6,7 @@
 --   narrow-is, standard-is, edge-is, in-square-is, frame-is, point-is
 --                            each definition of Points is true exactly where the facts of PointFacts hold: `.0` reads, `.1` introduces
 --   narrow-divided, frame-divided, standard-divided      the facts survive the division
---   square-within, Sizes, frame-sizes, point-sizes       bounds for all five numbers
+--   square-within, frame-sizes, point-sizes              bounds for all five numbers
 --   in-proportion            two points whose numbers are in proportion are equal
 -- Assumes nothing.
 use mathlib.Core.Path.{_≡_, sym, _∙_, ap, subst}
@@ -29,9 +29,9 @@ use Rattle.whole.specs.Flag.{eqZ}
 use Rattle.whole.specs.Divisor.{DividesAll, none, _also_}
 use Rattle.whole.specs.DivisorLaws.{gcdOf-is, gcdOf-above, over-back, over-one, same-numbers}
 use Rattle.sheet.specs.declared.Point.{Point}
-use Rattle.sheet.specs.Limits.{standardWSize, standardNSize}
 use Rattle.sheet.specs.Points.{numbers, divisor, divided, size, standard, edge, inSquare, narrow, frame, isPoint}
-use Rattle.sheet.specs.PointFacts.{Upto, Narrow, Standard, OnEdge, InSquare, inner, on, beside, Frame, APoint, a-standard, a-frame}
+use Rattle.sheet.specs.PointFacts.{Denominator, Narrow, Standard, OnEdge, BetweenEdges, inner, on, beside, Frame, APoint, a-standard, a-frame}
+use Rattle.sheet.specs.Sizes.{Sizes}
 use Rattle.sheet.specs.Flags.{both, either, eqb-is, flags}
 use Rattle.sheet.specs.AnswersLaws.{point-one}
 
@@ -88,8 +88,8 @@ reduced (a-frame s e) = e
 
 -- ---- each definition is true exactly where they hold
 
-upto-of : {n : ℕ} {w : ℤ} → pos 0 <ℤ w → w ≤ℤ pos n → Upto n w
-upto-of {n} h k = record { above = h; at-most = w-intro (≤-trans (≤-neg (nn-pos n)) (<-≤ h)) k }
+denominator-of : {n : ℕ} {w : ℤ} → pos 0 <ℤ w → w ≤ℤ pos n → Denominator n w
+denominator-of {n} h k = record { above = h; at-most = w-intro (≤-trans (≤-neg (nn-pos n)) (<-≤ h)) k }
 
 pub narrow-is : (p : Point) → (narrow p ≡ true) ↔ Narrow p
 unfolding narrow
@@ -99,7 +99,7 @@ narrow-is p = (to, from)
     to h =
         let f = simp flags at h in
         record {
-          in-w = upto-of (f .0 .0 .0) (f .0 .0 .1);
+          in-w = denominator-of (f .0 .0 .0) (f .0 .0 .1);
           in-nx = w-intro (f .0 .1 .0) (f .0 .1 .1);
           in-ny = w-intro (f .1 .0) (f .1 .1);
         }
@@ -119,7 +119,7 @@ standard-is p = (to, from)
         record {
           no-mx = f .0 .0 .0 .0;
           no-my = f .0 .0 .0 .1;
-          in-w = upto-of (f .0 .0 .1 .0) (f .0 .0 .1 .1);
+          in-w = denominator-of (f .0 .0 .1 .0) (f .0 .0 .1 .1);
           in-nx = w-intro (f .0 .1 .0) (f .0 .1 .1);
           in-ny = w-intro (f .1 .0) (f .1 .1);
         }
@@ -134,18 +134,18 @@ standard-is p = (to, from)
 pub edge-is : (m n w : ℤ) → (edge m n w ≡ true) ↔ OnEdge m n w
 edge-is m n w = (λ h. let f = simp flags at h in record { full = f .0; even = f .1 }, λ s. simp flags (s .full, s .even))
 
-pub in-square-is : (m n w : ℤ) → (inSquare m n w ≡ true) ↔ InSquare m n w
+pub in-square-is : (m n w : ℤ) → (inSquare m n w ≡ true) ↔ BetweenEdges m n w
 in-square-is m n w = (λ h. to (simp flags at h), from)
   where
-    to-n : size m ≡ w → (eqZ n (pos 0) ≡ true) ⊎ (eqZ (sgn n) (negℤ (sgn m)) ≡ true) → InSquare m n w
+    to-n : size m ≡ w → (eqZ n (pos 0) ≡ true) ⊎ (eqZ (sgn n) (negℤ (sgn m)) ≡ true) → BetweenEdges m n w
     to-n e (inl h) = on e (simp flags at h)
     to-n e (inr h) = beside e (simp flags at h)
 
-    to : (ltZ (size m) w ≡ true) ⊎ ((eqZ (size m) w && (eqZ n (pos 0) || eqZ (sgn n) (negℤ (sgn m)))) ≡ true) → InSquare m n w
+    to : (ltZ (size m) w ≡ true) ⊎ ((eqZ (size m) w && (eqZ n (pos 0) || eqZ (sgn n) (negℤ (sgn m)))) ≡ true) → BetweenEdges m n w
     to (inl h) = inner (simp flags at h)
     to (inr h) = let f = simp flags at h in to-n (f .0) (f .1)
 
-    from : InSquare m n w → inSquare m n w ≡ true
+    from : BetweenEdges m n w → inSquare m n w ≡ true
     from (inner h) = simp flags (inl (simp flags h))
     from (on h k) = simp flags (inr (simp flags (h, inl (simp flags k))))
     from (beside h k) = simp flags (inr (simp flags (h, inr (simp flags k))))
@@ -211,7 +211,7 @@ module _ (g : ℕ) (h : pos 0 <ℤ pos g) where
   full-times m′ w′ em ew e = mul-cancel (pos g) h (sym (size-times m′ em) ∙ e ∙ ew)
 
   module _ {m n w m′ n′ w′ : ℤ} (em : m ≡ pos g *ℤ m′) (en : n ≡ pos g *ℤ n′) (ew : w ≡ pos g *ℤ w′) where
-    square-times : InSquare m n w → InSquare m′ n′ w′
+    square-times : BetweenEdges m n w → BetweenEdges m′ n′ w′
     square-times (inner l) = inner (<-cancel (pos g) h (≤-<-trans (≤-of (sym (size-times m′ em))) (<-≤-trans l (≤-of ew))))
     square-times (on e z) = on (full-times m′ w′ em ew e) (zero-times en z)
     square-times (beside e z) = beside (full-times m′ w′ em ew e) (sym (sgn-times n′ en) ∙ z ∙ ap negℤ (sgn-times m′ em))
@@ -219,14 +219,14 @@ module _ (g : ℕ) (h : pos 0 <ℤ pos g) where
     edge-times : OnEdge m n w → OnEdge m′ n′ w′
     edge-times o = record { full = full-times m′ w′ em ew (o .full); even = zero-times en (o .even) }
 
-pub upto-divided : {n : ℕ} (p : Point) → Upto n (p .w) → Upto n (divided p .w)
+pub denominator-divided : {n : ℕ} (p : Point) → Denominator n (p .w) → Denominator n (divided p .w)
 unfolding divided
-upto-divided p u = record { above = divided-above p (u .above); at-most = w-quot (pos (divisor p)) (u .at-most) }
+denominator-divided p u = record { above = divided-above p (u .above); at-most = w-quot (pos (divisor p)) (u .at-most) }
 
 pub narrow-divided : {p : Point} → Narrow p → Narrow (divided p)
 unfolding divided
 narrow-divided {p} s = record {
-  in-w = upto-divided p (s .in-w);
+  in-w = denominator-divided p (s .in-w);
   in-nx = w-quot (pos (divisor p)) (s .in-nx);
   in-ny = w-quot (pos (divisor p)) (s .in-ny);
 }
@@ -250,24 +250,17 @@ standard-divided {p} s =
     record {
       no-mx = zero-times (divisor p) h (b .mx) (s .no-mx);
       no-my = zero-times (divisor p) h (b .my) (s .no-my);
-      in-w = upto-divided p (s .in-w);
+      in-w = denominator-divided p (s .in-w);
       in-nx = w-quot (pos (divisor p)) (s .in-nx);
       in-ny = w-quot (pos (divisor p)) (s .in-ny);
     }
 
 -- ---- bounds for all five numbers
 
-pub record Sizes (p : Point) : Type 0 where
-  pub in-mx : Within 4000 (p .mx)
-  pub in-nx : Within standardNSize (p .nx)
-  pub in-my : Within 4000 (p .my)
-  pub in-ny : Within standardNSize (p .ny)
-  pub in-w : Upto standardWSize (p .w)
-
-pub square-within : {k : ℕ} {m n w : ℤ} → InSquare m n w → Within k w → Within k m
+pub square-within : {k : ℕ} {m n w : ℤ} → BetweenEdges m n w → Within k w → Within k m
 square-within {k} {m} s h = record { within = leb→le (natAbs m) k (go s h .le) }
   where
-    go : {n w : ℤ} → InSquare m n w → Within k w → size m ≤ℤ pos k
+    go : {n w : ℤ} → BetweenEdges m n w → Within k w → size m ≤ℤ pos k
     go (inner l) h = ≤-trans (<-≤ l) (w-upper h)
     go (on e z) h = ≤-trans (≤-of e) (w-upper h)
     go (beside e z) h = ≤-trans (≤-of e) (w-upper h)

@@ -37,8 +37,10 @@ use Rattle.sheet.specs.Points.{X, Y, W, isPoint, given}
 use Rattle.sheet.specs.Ends.{begins, nextSide}
 use Rattle.sheet.specs.Signs.{order, turnPoly, turn, sideOfFigure, sideSign}
 use Rattle.sheet.specs.PointFacts.{APoint}
-use Rattle.sheet.specs.PointsLaws.{Sizes, point-is, point-sizes, in-proportion}
-use Rattle.sheet.specs.Expansions.{orderX, orderY, order-is, det, turnA, turnB, turnC, turn-poly-is}
+use Rattle.sheet.specs.Sizes.{Sizes}
+use Rattle.sheet.specs.PointsLaws.{point-is, point-sizes, in-proportion}
+use Rattle.sheet.specs.Coefficients.{orderX, orderY, det, turnA, turnB, turnC}
+use Rattle.sheet.specs.Expansions.{order-is, turn-poly-is}
 
 -- ---- order
 

@@ -10,7 +10,7 @@ ghost use Rattle.sheet.specs.Figure.{vec};
 ghost use Rattle.sheet.specs.Limits.{reachSize};
 ghost use Rattle.sheet.specs.Lent.{Wrote};
 ghost use Rattle.sheet.specs.Lists.{countOf};
-ghost use Rattle.sheet.specs.ListsLaws.{Listable};
+ghost use Rattle.sheet.specs.Listable.{Listable};
 ghost use Rattle.number.specs.Number.{zigzag};
 ghost use Rattle.store.specs.Stored.{plain, writeCoordinate, writePoint, writePair, writeShape, writeObject, writeObjects, writeDrawing};
 ghost use Rattle.store.specs.Bounded.{Reachable, Bounded};

@@ -1,6 +1,5 @@
 -- The viewer's calls, step by step as the code goes. To cite:
 --   call-more                 a later call of a reader is one call fewer from the place after this one
---   sideFor                   the answer once the object is found
 --   place-far, place-near     a point beyond 2,000 and one that is not; side-taken: the kernel then refuses nothing
 --   bytes-within              a refusal of stored bytes is a small number
 --   answer-bytes, answer-index, answer-object   the bytes' own refusal, 13, and the side of the object
@@ -27,7 +26,7 @@ use Rattle.sheet.specs.Refusal.{beyond, objectRefusal}
 use Rattle.sheet.specs.Points.{pointRefusal}
 use Rattle.sheet.specs.Signs.{sideSign, sideSignRefusal}
 use Rattle.sheet.specs.Lists.{width, countOf, objectAt}
-use Rattle.sheet.specs.ListsLaws.{Listable}
+use Rattle.sheet.specs.Listable.{Listable}
 use Rattle.sheet.specs.Flags.{both, neither, either, flags}
 use Rattle.sheet.specs.RefusalTable.{OneOf}
 use Rattle.sheet.specs.RefusalTableLaws.{split}
@@ -39,7 +38,8 @@ use Rattle.store.specs.declared.Item.the-variants.{One, End}
 use Rattle.store.specs.Stored.{Drawing, readDrawing}
 use Rattle.store.specs.Reader.{stepOf, callFrom, endOf, itemOf}
 use Rattle.store.specs.Refusals.{ofBytes}
-use Rattle.viewer.specs.Calls.{object, whole, indexRefusal, placeRefusal, signOr, sideIn}
+use Rattle.viewer.specs.Calls.{object, whole, indexRefusal, sideIn}
+use Rattle.viewer.specs.SideFor.{sideFor}
 use Rattle.viewer.specs.ReadingLaws.{bytes-refusal}
 
 pub call-more : (bs : List ℕ) (p : Bookmark) (k : ℕ) → 0 < k → callFrom bs p k ≡ callFrom bs (stepOf bs p .place) (k - 1)
@@ -48,10 +48,6 @@ call-more bs p zero h = absurd (omega arith)
 call-more bs p (suc k) h = let e : k ≡ suc k - 1 = omega arith in ap (callFrom bs (stepOf bs p .place)) e
 
 -- ---- the point
-
--- the side once the object is found
-unfoldable pub sideFor : Object → ℤ → ℤ → ℤ
-sideFor o x y = signOr (placeRefusal x y) (sideSign o (whole x y))
 
 module _ (x y : ℤ) where
   pub place-far : (o : Object) → (beyond x || beyond y) ≡ true → pos 102 ≡ sideFor o x y

@@ -20,7 +20,8 @@ use Rattle.sheet.specs.RefusalTable.{OneOf}
 use Rattle.sheet.specs.RefusalTableLaws.{one-of, one-more}
 use Rattle.sheet.specs.Answers.{objectNumbers}
 use Rattle.sheet.specs.Lists.{width, objectAt}
-use Rattle.sheet.specs.ListsLaws.{Listable, object-next}
+use Rattle.sheet.specs.Listable.{Listable}
+use Rattle.sheet.specs.ListsLaws.{object-next}
 use Rattle.store.specs.declared.Item.{Item}
 use Rattle.store.specs.declared.Item.the-variants.{One, End, Refused}
 use Rattle.store.specs.Stored.{Drawing, plain, before, andThen, counted}

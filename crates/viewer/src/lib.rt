@@ -11,7 +11,7 @@ ghost use Rattle.sheet.specs.Refusal.{Accepted};
 ghost use Rattle.store.specs.Stored.{readDrawing};
 ghost use Rattle.store.specs.Reader.{itemOf};
 ghost use Rattle.viewer.specs.Calls.{checkAnswer, sideAnswer};
-ghost use Rattle.viewer.specs.CallsLaws.{sideFor};
+ghost use Rattle.viewer.specs.SideFor.{sideFor};
 
 // What a refusal is added to, so that it is no sign.
 const REFUSED: i64 = 100;

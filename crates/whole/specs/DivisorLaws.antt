@@ -3,7 +3,7 @@
 --   gcd-step, gcd-lack           a step of the remainders keeps it
 --   gcd-is, gcdOf-is             what is found is one
 --   gcd-unique, gcdOf-unique     there is only one
---   gcdOf-fold                   of five numbers, folded from any one of them on; EitherWay
+--   gcdOf-fold                   of five numbers, folded from any one of them on
 --   gcdOf-times                  of a list times c it is |c| times
 --   gcdOf-above                  it is above 0 where a number that it divides is not 0
 --   quot-one                     divided by 1 a number stays
@@ -11,7 +11,7 @@
 --   same-numbers                 two lists of divisor 1 that are proportional are equal
 -- Assumes nothing.
 use mathlib.Core.Path.{_≡_, refl, sym, _∙_, ap, ap₂, subst}
-use mathlib.Core.Logic.{_⊎_, inl, inr}
+use mathlib.Core.Logic.{inl, inr}
 use mathlib.Core.Bool.{Bool, true, false}
 use mathlib.Core.List.{List, [], _∷_}
 use Prim.Native.Nat.{ℕ, zero, suc, _+_, _-_, _*_, _/_, _%_, _∣_, _<_}
@@ -27,6 +27,7 @@ use Rattle.whole.specs.SignLaws.{nn-size}
 use Rattle.whole.specs.Cert.{mul-cancel}
 use Rattle.whole.specs.Bound.{natAbs-mul}
 use Rattle.whole.specs.Poly.{times}
+use Rattle.whole.specs.EitherWay.{EitherWay}
 use Rattle.whole.specs.Divisor.{IsGcd, DividesAll, none, _also_, IsGcdOf, steps, gcd, gcdOf}
 
 -- ---- of two
@@ -103,10 +104,6 @@ gcdOf-unique {zs} {g} {h} p q = dvd-antisymm (q .most g (p .each)) (p .most h (q
 
 pub gcdOf-single : (z : ℤ) → IsGcdOf (z ∷ []) (natAbs z)
 gcdOf-single z = record { each = dvd-refl (natAbs z) also none; most = λ d ds. all-head ds }
-
--- s and o are a and b, as they are or changed over
-abbrev pub EitherWay : ℕ → ℕ → ℕ → ℕ → Type 0
-EitherWay a b s o = ((s ≡ a) × (o ≡ b)) ⊎ ((s ≡ b) × (o ≡ a))
 
 to-either : (k : ℕ) {a b s o : ℕ} → EitherWay a b s o → k ∣ a → k ∣ b → (k ∣ s) × (k ∣ o)
 to-either k (inl e) p q = (subst (λ (n : ℕ). k ∣ n) (sym (e .0)) p, subst (λ (n : ℕ). k ∣ n) (sym (e .1)) q)

@@ -7,6 +7,8 @@ pub mod Divisor
 pub mod Poly
 pub mod Fraction
 pub mod Within
+-- what the code's inner functions say
+pub mod EitherWay
 -- laws: the ring and the order of ℤ, and ways to prove in them
 pub mod Laws
 pub mod Ring

@@ -9,7 +9,8 @@ use Rattle.sheet.specs.Lists.{countOf, listRefusal}
 use Rattle.sheet.specs.ListsLaws.{listable}
 use Rattle.listing.specs.Rows.{rowsWith, rowsOf, sharing}
 use Rattle.listing.specs.RowsLaws.{length-rows}
-use Rattle.listing.specs.ListingLaws.{Listing, listing-is, listing-refused}
+use Rattle.listing.specs.Pairs.{Listing}
+use Rattle.listing.specs.ListingLaws.{listing-is, listing-refused}
 use borrow.Author.Needs.{needs}
 use Rattle.listing.proofs.list_all.Statement.{statement}
 use Rattle.listing.proofs.list_all.Tie as tie

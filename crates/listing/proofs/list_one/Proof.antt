@@ -10,9 +10,10 @@ use Rattle.sheet.specs.Lists.{listRefusal, indexRefusal}
 use Rattle.sheet.specs.ListsLaws.{listable, index-below}
 use Prim.Native.Nat.{_+_}
 use Rattle.listing.specs.Rows.{rowsWith, sharingWith}
-use Rattle.listing.specs.RowsLaws.{Between, length-rows-with}
+use Rattle.listing.specs.Pairs.{Between, Listing}
+use Rattle.listing.specs.RowsLaws.{length-rows-with}
 use Rattle.listing.specs.Listing.{oneRefusal}
-use Rattle.listing.specs.ListingLaws.{Listing, listing-is, listing-refused}
+use Rattle.listing.specs.ListingLaws.{listing-is, listing-refused}
 use borrow.Author.Needs.{needs}
 use Rattle.listing.proofs.list_one.Statement.{statement}
 use Rattle.listing.proofs.list_one.Tie as tie

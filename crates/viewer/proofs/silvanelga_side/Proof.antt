@@ -22,7 +22,8 @@ use Rattle.store.specs.Stored.{readDrawing}
 use Rattle.store.specs.Reader.{itemOf}
 use Rattle.store.proofs.Item as item
 use Rattle.viewer.specs.ReadingLaws.{good, item-accepted}
-use Rattle.viewer.specs.CallsLaws.{sideFor, bytes-within, answer-bytes, answer-index, answer-object, farIndex, index-far, Natural, index-natural, found, missed}
+use Rattle.viewer.specs.SideFor.{sideFor}
+use Rattle.viewer.specs.CallsLaws.{bytes-within, answer-bytes, answer-index, answer-object, farIndex, index-far, Natural, index-natural, found, missed}
 use Rattle.viewer.proofs.silvanelga_side.Statement.{statement}
 use Rattle.viewer.proofs.silvanelga_side.Tie as tie
 

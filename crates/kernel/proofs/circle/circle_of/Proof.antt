@@ -5,8 +5,10 @@ use Rattle.whole.specs.Tests.{gave}
 use Rattle.whole.specs.Flat.{none, _also_, within-out}
 use Rattle.sheet.specs.PointFacts.{Frame}
 use Rattle.sheet.specs.PointsLaws.{frame-sizes}
-use Rattle.sheet.specs.CircleLaws.{Given, given-is, given-small, not-given}
-use Rattle.sheet.specs.Angles.{givenForm, frameForm, by-given, by-frame}
+use Rattle.sheet.specs.CirclePoints.{Given}
+use Rattle.sheet.specs.CircleLaws.{given-is, given-small, not-given}
+use Rattle.sheet.specs.CircleForms.{givenForm, frameForm}
+use Rattle.sheet.specs.Angles.{by-given, by-frame}
 use Rattle.kernel.proofs.Ahead.{place}
 use Rattle.kernel.proofs.Coordinates.{x-of, y-of, coordinate-out, point-out}
 use borrow.Author.Needs.{needs}

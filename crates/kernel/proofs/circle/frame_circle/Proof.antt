@@ -14,7 +14,7 @@ use Rattle.sheet.specs.Figure.{vec}
 use Rattle.sheet.specs.Points.{given}
 use Rattle.sheet.specs.Signs.{turn}
 use Rattle.sheet.specs.Expansions.{pair-side-is}
-use Rattle.sheet.specs.Angles.{turns, inner}
+use Rattle.sheet.specs.CircleForms.{turns, inner}
 use Rattle.kernel.specs.Forms.{pairSide}
 use Rattle.kernel.proofs.Coordinates.{coordinate-out, lead-is}
 use Rattle.kernel.proofs.Seen.{axE, ayE, bxE, byE, turnE, innerE}

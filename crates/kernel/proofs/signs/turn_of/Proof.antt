@@ -9,7 +9,8 @@ use Rattle.whole.specs.Ring.{var, _⊕_}
 use Rattle.whole.specs.Flat.{All, none, _also_, need, gives}
 use Rattle.whole.specs.Bound.{w-is}
 use Rattle.whole.specs.Tests.{gave}
-use Rattle.sheet.specs.Expansions.{turnC, turn-is}
+use Rattle.sheet.specs.Coefficients.{turnC}
+use Rattle.sheet.specs.Expansions.{turn-is}
 use Rattle.kernel.specs.Forms.{mixed-is}
 use Rattle.kernel.proofs.Det.{mn, nm, det-within}
 use Rattle.kernel.proofs.Coordinates.{lead-is}

@@ -6,7 +6,8 @@ use lib.ListN.{length}
 use Rattle.sheet.specs.Limits.{most}
 use Rattle.sheet.specs.Lists.{countOf}
 use Rattle.sheet.specs.LentLaws.{clipped-is, wrote-size}
-use Rattle.listing.specs.RowsLaws.{rowsBetween, pairs-fit, between-most, between-fits}
+use Rattle.listing.specs.Pairs.{rowsBetween}
+use Rattle.listing.specs.RowsLaws.{pairs-fit, between-most, between-fits}
 use Rattle.listing.specs.ListingLaws.{lacks-none, lacks}
 use borrow.Author.Needs.{needs}
 use Rattle.listing.proofs.pairs.lacking_room.Statement.{statement}

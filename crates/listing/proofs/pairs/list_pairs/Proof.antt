@@ -4,7 +4,8 @@ use native.Mathlib.Omega.{arith}
 use lib.ListN.{length}
 use Prim.Native.Nat.{ℕ, _/_}
 use Rattle.sheet.specs.Lists.{rowWidth}
-use Rattle.listing.specs.RowsLaws.{rowsBetween, between-fits}
+use Rattle.listing.specs.Pairs.{rowsBetween}
+use Rattle.listing.specs.RowsLaws.{between-fits}
 use Rattle.listing.specs.ListingLaws.{has-room, has-none}
 use Rattle.sheet.specs.LentLaws.{short, done, clipped-is, wrote-size, wrote-front}
 use borrow.Author.Needs.{needs}

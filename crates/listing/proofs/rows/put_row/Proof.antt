@@ -10,10 +10,11 @@ use Rattle.sheet.specs.Refusal.{Accepted}
 use Rattle.sheet.specs.Crossing.{point, many, crossingOf}
 use Rattle.sheet.specs.Lists.{objectAt}
 use Rattle.sheet.specs.LentLaws.{wrote-none, wrote-as}
-use Rattle.sheet.specs.AnswersLaws.{meetingBy}
+use Rattle.sheet.specs.Meetings.{meetingBy}
 use Rattle.kernel.proofs.Handed as handed
 use Rattle.listing.specs.Rows.{meetingOf}
-use Rattle.listing.specs.RowsLaws.{Pair, row-once, row-many, row-none}
+use Rattle.listing.specs.Pairs.{Pair}
+use Rattle.listing.specs.RowsLaws.{row-once, row-many, row-none}
 use borrow.Author.Needs.{needs}
 use Rattle.listing.proofs.rows.put_row.Statement.{statement}
 use Rattle.listing.proofs.rows.put_row.Tie as tie

@@ -9,7 +9,8 @@ use Rattle.whole.specs.Bound.{w-is}
 use Rattle.whole.specs.Tests.{out, fits-ok, eq-left, gave, lit-taken}
 use Rattle.sheet.specs.Figure.{Vec}
 use Rattle.screen.specs.Quotient.{float}
-use Rattle.sheet.specs.ListsLaws.{Listable, listable}
+use Rattle.sheet.specs.Listable.{Listable}
+use Rattle.sheet.specs.ListsLaws.{listable}
 use Rattle.screen.specs.Boxes.{endsOf, farthest, extreme, isNone, boxOf}
 use Rattle.screen.specs.BoxesLaws.{AllSmall, ends-small, beyondAll, from-beyond, no-end, some-end, extreme-within}
 use borrow.Author.Needs.{needs}

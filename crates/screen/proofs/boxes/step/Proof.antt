@@ -5,7 +5,7 @@ use lib.IntN.{ℤ, pos}
 use Rattle.whole.specs.Flag.{eqZ}
 use Rattle.whole.specs.Tests.{eq-eqZ, ne-eqZ, eq-left, out-is, gave, lit-taken}
 use Rattle.screen.specs.Boxes.{farther}
-use Rattle.screen.specs.BoxesLaws.{steppedBy}
+use Rattle.screen.specs.ByNumber.{steppedBy}
 use borrow.Author.Needs.{needs}
 use Rattle.screen.proofs.boxes.step.Statement.{statement}
 use Rattle.screen.proofs.boxes.step.Tie as tie

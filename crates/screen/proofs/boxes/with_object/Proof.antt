@@ -4,7 +4,8 @@ use Rattle.whole.specs.Tests.{out, out-is, gave}
 use Rattle.sheet.specs.Figure.{Figure}
 use Rattle.kernel.proofs.Handed as handed
 use Rattle.screen.specs.Boxes.{standardEnds, farthest}
-use Rattle.screen.specs.BoxesLaws.{stepped, ends-step}
+use Rattle.screen.specs.ByNumber.{stepped}
+use Rattle.screen.specs.BoxesLaws.{ends-step}
 use borrow.Author.Needs.{needs}
 use Rattle.screen.proofs.boxes.with_object.Statement.{statement}
 use Rattle.screen.proofs.boxes.with_object.Tie as tie

@@ -9,7 +9,8 @@ use Rattle.sheet.specs.Figure.{sideNumber}
 use Rattle.kernel.proofs.Handed as handed
 use Rattle.screen.specs.Quotient.{quotient}
 use Rattle.screen.specs.Places.{sideWhere, along}
-use Rattle.screen.specs.PlacesLaws.{alongNumber, along-is}
+use Rattle.screen.specs.ByNumber.{alongNumber}
+use Rattle.screen.specs.PlacesLaws.{along-is}
 use borrow.Author.Needs.{needs}
 use Rattle.screen.proofs.places.edge_place.Statement.{statement}
 use Rattle.screen.proofs.places.edge_place.Tie as tie

@@ -6,7 +6,7 @@ use mir.Syntax.{w64}
 use mir.Val.{ofZ}
 use Rattle.whole.specs.Tests.{out-is, lit-flag}
 use Rattle.screen.specs.Quotient.{quotient}
-use Rattle.screen.specs.PlacesLaws.{alongNumber}
+use Rattle.screen.specs.ByNumber.{alongNumber}
 use borrow.Author.Needs.{needs}
 use Rattle.screen.proofs.places.value_along.Statement.{statement}
 use Rattle.screen.proofs.places.value_along.Tie as tie
