@@ -1,11 +1,37 @@
-/* Times the listings of two builds of this library in turn, in one process: the name of each sheet, and the nanoseconds a pair of both. */
+/* Times the listings and the drawings of two builds of this library in turn, in one process: what is timed, and the nanoseconds of both, a
+   pair of a listing and a byte of a drawing. */
 #include "sheets.h"
 #include <string.h>
 
 int64_t silvanelga_trial_list(const int64_t *list, size_t length, int64_t *rows, size_t room);
+int64_t silvanelga_trial_read(const uint8_t *bytes, size_t length, int64_t *list, size_t room);
+int64_t silvanelga_trial_write(const int64_t *list, size_t length, uint8_t *bytes, size_t room);
 int64_t other_list(const int64_t *list, size_t length, int64_t *rows, size_t room);
+int64_t other_read(const uint8_t *bytes, size_t length, int64_t *list, size_t room);
+int64_t other_write(const int64_t *list, size_t length, uint8_t *bytes, size_t room);
 
-static int64_t list[NUMBERS], rows[ROW * PAIRS], other[ROW * PAIRS];
+static int64_t list[NUMBERS], back[NUMBERS], rows[ROW * PAIRS], other[ROW * PAIRS];
+static uint8_t bytes[BYTES], again[BYTES];
+
+/* the drawing of the list: written into more bytes than it needs, into as many as it needs, into none, and read */
+static void race_drawings(const char *name)
+{
+    size_t size = (size_t)plain_write(list, NUMBERS, again, BYTES);
+    if (silvanelga_trial_write(list, NUMBERS, bytes, size) != 0 || memcmp(bytes, again, size) != 0) fail("a drawing is wrong");
+    if (other_write(list, NUMBERS, again, size) != 0 || memcmp(bytes, again, size) != 0) fail("the two drawings differ");
+    if (silvanelga_trial_read(bytes, size, back, NUMBERS) != 0 || memcmp(list, back, sizeof list) != 0) fail("the drawing did not come back");
+    if (other_read(bytes, size, back, NUMBERS) != 0 || memcmp(list, back, sizeof list) != 0) fail("the other build's drawing did not come back");
+    const struct { const char *how; size_t room; } writes[] = {{"write", BYTES}, {"write fitting", size}, {"no room", 0}};
+    for (int k = 0; k < 3; k++) {
+        double ours = 0, theirs = 0;
+        size_t room = writes[k].room;
+        RACE(silvanelga_trial_write(list, NUMBERS, bytes, room), other_write(list, NUMBERS, again, room), ours, theirs)
+        printf("%s, %s\t%.3f\t%.3f\n", writes[k].how, name, theirs / (double)size, ours / (double)size);
+    }
+    double ours = 0, theirs = 0;
+    RACE(silvanelga_trial_read(bytes, size, back, NUMBERS), other_read(bytes, size, back, NUMBERS), ours, theirs)
+    printf("read, %s\t%.3f\t%.3f\n", name, theirs / (double)size, ours / (double)size);
+}
 
 int main(void)
 {
@@ -19,5 +45,11 @@ int main(void)
         RACE(silvanelga_trial_list(list, NUMBERS, rows, ROW * PAIRS), other_list(list, NUMBERS, other, ROW * PAIRS), ours, theirs)
         printf("%s\t%.3f\t%.3f\n", sheets[k].name, theirs / PAIRS, ours / PAIRS);
     }
+    for (int i = 0; i < MOST; i++) sides(list + WIDTH * i, i);
+    race_drawings("mixed");
+    for (int i = 0; i < MOST; i++) grid(list + WIDTH * i, i);
+    race_drawings("near");
+    for (int i = 0; i < MOST; i++) chains(list + WIDTH * i, i);
+    race_drawings("chains");
     return 0;
 }

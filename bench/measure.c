@@ -7,7 +7,7 @@ int64_t silvanelga_trial_list(const int64_t *list, size_t length, int64_t *rows,
 int64_t silvanelga_trial_read(const uint8_t *bytes, size_t length, int64_t *list, size_t room);
 int64_t silvanelga_trial_write(const int64_t *list, size_t length, uint8_t *bytes, size_t room);
 
-enum { BYTES = 2 + 9 * MOST, CGAL_TURNS = 7 };
+enum { CGAL_TURNS = 7 };
 
 static int64_t list[NUMBERS], back[NUMBERS], rows[ROW * PAIRS], other[ROW * PAIRS];
 static uint8_t bytes[BYTES], again[BYTES];

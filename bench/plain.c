@@ -79,7 +79,7 @@ static meeting together(const object *a, const object *b)
     return hi < lo ? nothing() : once((point){0, x, 0, y, 1});
 }
 
-static bool reaches(int64_t kind, int64_t h, int64_t w) { return (kind == 3 || h >= 0) && (kind != 1 || h <= w); }
+static bool reaches(int64_t kind, int64_t h, int64_t w) { return kind == 1 ? h >= 0 && h <= w : kind == 3 || h >= 0; }
 
 static meeting cross(const object *a, const object *b)
 {

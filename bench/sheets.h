@@ -4,7 +4,7 @@
 #include "plain.h"
 #include "race.h"
 
-enum { NUMBERS = WIDTH * MOST, PAIRS = MOST * (MOST - 1) / 2 };
+enum { NUMBERS = WIDTH * MOST, PAIRS = MOST * (MOST - 1) / 2, BYTES = 2 + 9 * MOST };
 
 static void pair(int64_t *o, int64_t kind, int64_t reach)
 {

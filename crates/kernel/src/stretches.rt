@@ -26,13 +26,15 @@ fn times_sign(w: i64, z: i64) -> i64
     z
 }
 
-// Whether an object of this kind has the place p + (h / w) d of its line: not before p but for a line, not beyond q for a segment.
+// Whether an object of this kind has the place p + (h / w) d of its line: not before p but for a line, not beyond q for a segment. What a
+// segment asks is one test, since most pairs of a sheet end here, and which of its two ends was passed is as good as random.
 fn reaches(kind: i64, h: i64, w: i64) -> bool
     ensures { λ r. ⌜ r ≡ reachesBy kind h w ⌝ }
 {
-    let ahead = (kind == Object::LINE) | (0 <= h);
-    let within = !(kind == Object::SEGMENT) | (h <= w);
-    ahead & within
+    if kind == Object::SEGMENT {
+        return (0 <= h) & (h <= w);
+    }
+    (kind == Object::LINE) | (0 <= h)
 }
 
 // The point that the two lines share, with the common divisor out.

@@ -3,7 +3,7 @@
 --   listing-is                   what the rows of accepted objects end with is what is said of a listing
 --   listing-refused              a listing that is refused before its rows are looked for
 -- Assumes nothing.
-use mathlib.Core.Path.{_≡_, refl, sym, ap, subst, _∙_}
+use mathlib.Core.Path.{_≡_, refl, sym, ap, _∙_}
 use mathlib.Core.Bool.{Bool, true, false, cond}
 use mathlib.Core.List.{List}
 use Prim.Native.Nat.{ℕ, _*_, _/_, _≤_, _<_}

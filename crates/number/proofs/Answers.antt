@@ -6,15 +6,15 @@ use contract.Lifetimes.{Lfts}
 use denote.Ref.{RefT}
 use Rattle.number.specs.declared.Number.{Number}
 use Rattle.number.proofs.read_number.Reads as read-number
-use Rattle.number.proofs.put_number.Reads as put-number
+use Rattle.number.proofs.put_stored.Reads as put-stored
 
 pub read-number-answer :
     (κs : Lfts 1) (bytes : RefT (List ℕ)) (r s : Number)
     → read-number.Post κs (bytes, tt) r (bytes, tt) → read-number.Post κs (bytes, tt) s (bytes, tt) → r ≡ s
 read-number-answer κs bytes r s p q = p .0 ∙ sym (q .0)
 
-pub put-number-answer :
-    (κs : Lfts 1) (n : ℕ) (out d e : RefT (List ℕ)) (at r s : ℕ)
-    → put-number.Post κs (n, (out, (at, tt))) r (n, (d, (at, tt))) → put-number.Post κs (n, (out, (at, tt))) s (n, (e, (at, tt)))
+pub put-stored-answer :
+    (κs : Lfts 2) (numbers out d e : RefT (List ℕ)) (at r s : ℕ)
+    → put-stored.Post κs (numbers, (out, (at, tt))) r (numbers, (d, (at, tt))) → put-stored.Post κs (numbers, (out, (at, tt))) s (numbers, (e, (at, tt)))
     → (r ≡ s) × (d .now ≡ e .now)
-put-number-answer κs n out d e at r s p q = (p .0 .place ∙ sym (q .0 .place), p .0 .cells ∙ sym (q .0 .cells))
+put-stored-answer κs numbers out d e at r s p q = (p .0 .place ∙ sym (q .0 .place), p .0 .cells ∙ sym (q .0 .cells))

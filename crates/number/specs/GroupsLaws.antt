@@ -1,27 +1,30 @@
 -- A stored number, group by group, as the code reads and puts it. To cite:
 --   Groups, groups-start, groups-step    i groups are read, each with another behind it: before the first, and one more
---   groups-cut, groups-over, groups-wrong, groups-done   the bytes end; too many groups; the code's test of a group, and the number is whole
+--   groups-cut, groups-over, groups-wrong   the bytes end; too many groups; the code's test finds a group wrong
+--   groups-fine, groups-done             it finds none, and the number is whole
 --   unit-below, sum-below                what the groups hold is small
---   Written, written-more, written-last   some bytes of a number are put: one more, the last
---   number-put                           a number that is not too large is put as it is
+--   Sized, sized-start, sized-more, sized-over, sized-done   some groups of a number are counted: none, one more, one that is not there, all
+--   number-most                          no number takes more than the most
+--   Written, written-start, written-last, written-room   some bytes of a number are put: none, the last, and there is room for another
+--   goes-on, written-next, written-end   the code's test, whether a group follows: one does, and is put; what is left is the last
 -- Assumes nothing.
 use mathlib.Core.Path.{_≡_, refl, sym, ap, subst, _∙_}
 use mathlib.Core.Logic.{_⊎_, inl, inr}
-use mathlib.Core.Bool.{Bool, true, false, _&&_, _||_}
+use mathlib.Core.Bool.{Bool, true, false, cond, _&&_, _||_}
 use mathlib.Core.List.{List, [], _∷_, _++_, append-assoc}
-use Prim.Native.Nat.{ℕ, zero, suc, _+_, _*_, _-_, _/_, _%_, _<_, _≤_, min}
+use Prim.Native.Nat.{ℕ, zero, suc, _+_, _*_, _-_, _/_, _%_, _<_, _≤_}
 use native.Mathlib.Nat.{mul-suc, mul-add, mul-assoc, mul-le-mul-left, add-assoc}
 use native.Mathlib.Numerals.{add-one}
 use native.Mathlib.Omega.{arith}
-use borrow.Author.Tests.{lt-ltb, le-ltb, ne-eqb, eqb-true, eqb-false, leb-true}
+use borrow.Author.Tests.{lt-ltb, le-ltb, ltb-true, ltb-false, ne-eqb, eqb-true, eqb-false, leb-true, leb-false}
 use lib.Dec.{ltb, leb, eqb}
 use lib.IntN.{pos}
-use lib.ListN.{length, getD, drop, drop-of-length-le}
+use lib.ListN.{length, getD, drop, drop-of-length-le, length-append}
 use lib.Seq.{drop-cons}
 use Rattle.sheet.specs.Flags.{both, either}
-use Rattle.sheet.specs.Lent.{Wrote}
-use Rattle.sheet.specs.LentLaws.{wrote-two, wrote-as}
-use Rattle.number.specs.Number.{group, moreGroups, limit, numberLimit, largestNumber, writeGroups, writeNumber, Reading, got, no, next, checked, readGroups, readNumber}
+use Rattle.sheet.specs.Lent.{largest, Wrote}
+use Rattle.sheet.specs.LentLaws.{clipped-is, wrote-none, wrote-two, wrote-as, wrote-length}
+use Rattle.number.specs.Number.{group, moreGroups, limit, numberLimit, writeGroups, writeNumber, Reading, got, no, next, checked, readGroups, readNumber}
 
 -- ---- reading
 
@@ -112,15 +115,14 @@ groups-over g = g .is
 
 -- the code's test of a group b behind i others
 abbrev pub refuses : ℕ → ℕ → Bool
-refuses i b = ltb 0 i && (eqb b 0 || (eqb i moreGroups && leb group b))
+refuses i b = eqb b 0 || (eqb i moreGroups && leb group b)
 
-fine : (i b : ℕ) → refuses i b ≡ false → (ltb 0 i && eqb b 0) ≡ false
-fine i b t = go (ltb 0 i) (eqb b 0) t
+pub groups-fine : (i b : ℕ) → refuses i b ≡ false → (ltb 0 i && eqb b 0) ≡ false
+groups-fine i b t = go (eqb b 0) t
   where
-    go : (s z : Bool) → (s && (z || (eqb i moreGroups && leb group b))) ≡ false → (s && z) ≡ false
-    go true true e = e
-    go true false e = refl
-    go false z e = refl
+    go : (z : Bool) → (z || (eqb i moreGroups && leb group b)) ≡ false → (ltb 0 i && z) ≡ false
+    go true e = ap (λ (z : Bool). ltb 0 i && z) e ∙ and-false (ltb 0 i)
+    go false e = and-false (ltb 0 i)
 
 over : {bs : List ℕ} {left i v u : ℕ} → left ≡ 0 → Groups bs left i v u → readNumber bs ≡ no (pos 8)
 over {bs} {left} {i} {v} {u} z g = groups-over (subst (λ (n : ℕ). Groups bs n i v u) z g)
@@ -149,10 +151,10 @@ module _ {bs : List ℕ} {k i v u : ℕ} (g : Groups bs (suc k) i v u) where
     empty : b < group → (ltb 0 i && eqb b 0) ≡ true → readNumber bs ≡ no (pos 8)
     empty l t = last l ∙ ap (λ (t : Bool). checked t (pos 8) (v + u * b) (drop (i + 1) bs)) t
 
-    pub groups-done : refuses i b ≡ false → b < group → readNumber bs ≡ got (v + u * (b % group)) (drop (i + 1) bs)
+    pub groups-done : (ltb 0 i && eqb b 0) ≡ false → b < group → readNumber bs ≡ got (v + u * (b % group)) (drop (i + 1) bs)
     groups-done t l =
         let is : b ≡ b % group = omega arith in
-        last l ∙ (λ j. checked (fine i b t j) (pos 8) (v + u * is j) (drop (i + 1) bs))
+        last l ∙ (λ j. checked (t j) (pos 8) (v + u * is j) (drop (i + 1) bs))
 
     pub groups-step : group ≤ b → b < group + group → Groups bs k (i + 1) (v + u * (b % group)) (u * group)
     groups-step l m =
@@ -172,13 +174,13 @@ module _ {bs : List ℕ} {k i v u : ℕ} (g : Groups bs (suc k) i v u) where
         }
 
     -- the code's test of a group finds that it is 0, or that another follows the last
-    pub groups-wrong : refuses i b ≡ true → b < group + group → readNumber bs ≡ no (pos 8)
-    groups-wrong t m = go (either (eqb b 0) (eqb i moreGroups && leb group b) .0 (both (ltb 0 i) _ .0 t .1))
+    pub groups-wrong : 0 < i → refuses i b ≡ true → b < group + group → readNumber bs ≡ no (pos 8)
+    groups-wrong some t m = go (either (eqb b 0) (eqb i moreGroups && leb group b) .0 t)
       where
         go : (eqb b 0 ≡ true) ⊎ ((eqb i moreGroups && leb group b) ≡ true) → readNumber bs ≡ no (pos 8)
         go (inl z) =
             let n : b ≡ 0 = eqb-true b 0 z in
-            empty (omega arith) (both (ltb 0 i) (eqb b 0) .1 (both (ltb 0 i) _ .0 t .0, z))
+            empty (omega arith) (both (ltb 0 i) (eqb b 0) .1 (lt-ltb 0 i some, z))
         go (inr z) =
             let f = both (eqb i moreGroups) (leb group b) .0 z in
             let at : i ≡ moreGroups = eqb-true i moreGroups (f .0) in
@@ -192,38 +194,120 @@ unfolding writeGroups
 write-last zero n h = refl
 write-last (suc more) n h = simp (lt-ltb n group h)
 
--- some bytes of the number m are put, and `left` is what the others hold
-pub record Written (d out : List ℕ) (at m to left : ℕ) : Type 0 where
+-- i groups after the first of the number n are looked for and `size` groups found, and `left` is what is left of n without the first i
+pub record Sized (n size left i : ℕ) : Type 0 where
   pub more : ℕ
+  pub count : more + i ≡ moreGroups
+  pub few : size ≤ i + 1
+  pub all : size + length (writeGroups more left) ≡ length (writeNumber n) + 1
+
+pub sized-start : (n : ℕ) → Sized n 1 n 0
+sized-start n = record { more = moreGroups; count = omega arith; few = omega arith; all = omega arith }
+
+module _ {n size left i : ℕ} (s : Sized n size left i) (h : i < moreGroups) where
+  pub sized-more : 0 < left / group → Sized n (size + 1) (left / group) (i + 1)
+  unfolding writeGroups
+  sized-more l = go (s .more) (s .count) (s .all)
+    where
+      go : (more : ℕ) → more + i ≡ moreGroups → size + length (writeGroups more left) ≡ length (writeNumber n) + 1 → Sized n (size + 1) (left / group) (i + 1)
+      go zero c e = absurd (omega arith)
+      go (suc more) c e =
+          let e′ = simp (le-ltb left group (omega arith)) at e in
+          record { more = more; count = omega arith; few = omega (arith, s .few); all = omega arith }
+
+  pub sized-over : left / group ≡ 0 → Sized n size (left / group) (i + 1)
+  sized-over z = go (s .more) (s .count) (s .all)
+    where
+      go : (more : ℕ) → more + i ≡ moreGroups → size + length (writeGroups more left) ≡ length (writeNumber n) + 1 → Sized n size (left / group) (i + 1)
+      go zero c e = absurd (omega arith)
+      go (suc more) c e =
+          record {
+            more = more;
+            count = omega arith;
+            few = omega (arith, s .few);
+            all = omega (arith, ap length (write-last (suc more) left (omega arith)), ap length (write-last more (left / group) (omega arith)));
+          }
+
+pub sized-done : {n size left i : ℕ} → Sized n size left i → moreGroups ≤ i → size ≡ length (writeNumber n)
+unfolding writeGroups
+sized-done {n} {size} {left} {i} s h =
+    let last : s .more ≡ 0 = omega (arith, s .count) in
+    omega (arith, s .all, ap (λ (more : ℕ). length (writeGroups more left)) last)
+
+-- a number takes a byte at least, and no more than its groups
+some : (more n : ℕ) → (1 ≤ length (writeGroups more n)) × (length (writeGroups more n) ≤ more + 1)
+unfolding writeGroups
+some zero n = (omega arith, omega arith)
+some (suc more) n = go (ltb n group) (some more (n / group) .1)
+  where
+    go : (b : Bool) → length (writeGroups more (n / group)) ≤ more + 1
+        → let l = cond b (n ∷ []) ((group + n % group) ∷ writeGroups more (n / group)) in (1 ≤ length l) × (length l ≤ suc more + 1)
+    go true h = (omega arith, omega arith)
+    go false h = (omega arith, omega arith)
+
+pub number-most : (n : ℕ) → length (writeNumber n) ≤ moreGroups + 1
+number-most n = some moreGroups n .1
+
+-- some bytes of the number m are put, and `left` is what the others hold, a group and `more` behind it at most
+pub record Written (d out : List ℕ) (at m to left more : ℕ) : Type 0 where
   pub front : List ℕ
   pub put : Wrote d out at to front
   pub all : front ++ writeGroups more left ≡ writeNumber m
   pub small : left < limit more
 
-module _ {d out : List ℕ} {at m to left : ℕ} (w : Written d out at m to left) where
-  pub written-more :
-      {out′ : List ℕ} {to′ : ℕ} → group ≤ left → Wrote out out′ to to′ ((group + left % group) ∷ []) → Written d out′ at m to′ (left / group)
-  unfolding writeGroups
-  written-more {out′} {to′} h v = go (w .more) (w .all) (w .small)
-    where
-      go : (more : ℕ) → w .front ++ writeGroups more left ≡ writeNumber m → left < limit more → Written d out′ at m to′ (left / group)
-      go zero e l = absurd (omega arith)
-      go (suc more) e l =
-          let byte = (group + left % group) ∷ [] in
-          let e′ = simp (le-ltb left group h) at e in
-          record {
-            more = more;
-            front = w .front ++ byte;
-            put = wrote-two (w .put) v;
-            all = append-assoc (w .front) byte (writeGroups more (left / group)) ∙ e′;
-            small = omega arith;
-          }
+pub written-start : {d : List ℕ} {at m : ℕ} → length d ≤ largest → at ≤ largest → m < numberLimit → Written d d at m at m moreGroups
+written-start l h small = record { front = []; put = wrote-none l h; all = refl; small = small }
 
+written-more :
+    {d out out′ : List ℕ} {at m to to′ left more : ℕ}
+    → Written d out at m to left (suc more)
+    → group ≤ left
+    → Wrote out out′ to to′ ((group + left % group) ∷ [])
+    → Written d out′ at m to′ (left / group) more
+unfolding writeGroups
+written-more {left = left} {more = more} w h v =
+    let byte = (group + left % group) ∷ [] in
+    let e′ = simp (le-ltb left group h) at (w .all) in
+    record {
+      front = w .front ++ byte;
+      put = wrote-two (w .put) v;
+      all = append-assoc (w .front) byte (writeGroups more (left / group)) ∙ e′;
+      small = omega (arith, w .small);
+    }
+
+module _ {d out : List ℕ} {at m to left more : ℕ} (w : Written d out at m to left more) where
   pub written-last : {out′ : List ℕ} {to′ : ℕ} → left < group → Wrote out out′ to to′ (left ∷ []) → Wrote d out′ at to′ (writeNumber m)
   written-last h v =
-      wrote-as (wrote-two (w .put) v) (ap (λ (l : List ℕ). w .front ++ l) (sym (write-last (w .more) left h)) ∙ w .all)
+      wrote-as (wrote-two (w .put) v) (ap (λ (l : List ℕ). w .front ++ l) (sym (write-last more left h)) ∙ w .all)
 
--- what put_number leaves, of a number that is not too large
-pub number-put :
-    {d out : List ℕ} {at to n m : ℕ} → n ≡ m → m < numberLimit → Wrote d out at to (writeNumber (min n largestNumber)) → Wrote d out at to (writeNumber m)
-number-put {n = n} {m = m} e h w = let is : min n largestNumber ≡ m = omega arith in wrote-as w (ap writeNumber is)
+  pub written-room : at + length (writeNumber m) ≤ length d → (to < length out)
+  written-room h =
+      let all : length (w .front) + length (writeGroups more left) ≡ length (writeNumber m) = sym (length-append (w .front) _) ∙ ap length (w .all) in
+      let here : to ≡ at + length (w .front) = w .put .place ∙ clipped-is (omega (arith, w .put .lent, all)) in
+      omega (arith, all, here, some more left .0, wrote-length (w .put))
+
+-- the code's test behind i groups: another comes, or what is left is the last
+pub goes-on : (i left : ℕ) → (ltb i moreGroups && leb group left) ≡ true → (i < moreGroups) × (group ≤ left)
+goes-on i left t =
+    let f = both (ltb i moreGroups) (leb group left) .0 t in
+    (ltb-true i moreGroups (f .0), leb-true group left (f .1))
+
+module _ {d out : List ℕ} {at m to left : ℕ} (i : ℕ) (w : Written d out at m to left (moreGroups - i)) where
+  pub written-next :
+      {out′ : List ℕ} {to′ : ℕ}
+      → (ltb i moreGroups && leb group left) ≡ true
+      → Wrote out out′ to to′ ((group + left % group) ∷ [])
+      → Written d out′ at m to′ (left / group) (moreGroups - (i + 1))
+  written-next t v =
+      let on = goes-on i left t in
+      let e : moreGroups - i ≡ suc (moreGroups - (i + 1)) = omega (arith, on .0) in
+      written-more (subst (Written d out at m to left) e w) (on .1) v
+
+  pub written-end : (ltb i moreGroups && leb group left) ≡ false → left < group
+  written-end t = go (ltb i moreGroups) (ltb-false i moreGroups) t
+    where
+      go : (s : Bool) → (s ≡ false → moreGroups ≤ i) → (s && leb group left) ≡ false → left < group
+      go true f e = leb-false group left e
+      go false f e =
+          let z : moreGroups - i ≡ 0 = omega (arith, f refl) in
+          subst (λ (k : ℕ). left < limit k) z (w .small)

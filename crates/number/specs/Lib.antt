@@ -4,8 +4,10 @@ pub mod Number
 pub mod WorkedNumber
 -- what the code's inner functions say
 pub mod ReadAs
+pub mod AllSmall
 -- laws
 pub mod GroupsLaws
+pub mod WrittenLaws
 pub mod NumberLaws
 pub mod ReadAsLaws
 pub mod ZigzagLaws

@@ -1,7 +1,7 @@
 -- "Stored drawing" of document 01, its numbers: what is written for one, and what is read of bytes. Definitions alone.
 use mathlib.Core.Bool.{Bool, cond}
-use mathlib.Core.List.{List, [], _∷_}
-use Prim.Native.Nat.{ℕ, zero, suc, _+_, _*_, _-_, _/_, _%_, _<_}
+use mathlib.Core.List.{List, [], _∷_, _++_}
+use Prim.Native.Nat.{ℕ, zero, suc, _+_, _*_, _-_, _/_, _%_, _<_, min}
 use lib.Dec.{ltb, eqb}
 use lib.IntN.{ℤ, pos, negsuc}
 use lib.ListN.{length, getD}
@@ -39,6 +39,11 @@ writeGroups (suc more) n = cond (ltb n group) (n ∷ []) ((group + n % group) �
 
 abbrev pub writeNumber : ℕ → List ℕ
 writeNumber = writeGroups moreGroups
+
+-- some numbers, one behind the other; one that is too large is written as the largest
+unfoldable pub writeNumbers : List ℕ → List ℕ
+writeNumbers [] = []
+writeNumbers (n ∷ ns) = writeNumber (min n largestNumber) ++ writeNumbers ns
 
 -- "n of 0 or more is stored as 2n and a negative n as -2n - 1"
 abbrev pub zigzag : ℤ → ℕ

@@ -4,7 +4,7 @@ use mathlib.Core.Path.{_≡_, refl}
 use mathlib.Core.List.{[], _∷_, map}
 use lib.IntN.{pos}
 use Rattle.sheet.specs.Cases.{minus}
-use Rattle.number.specs.Number.{largestNumber, writeGroups, writeNumber, zigzag, got, no, readGroups, readNumber, unzigzag, numberOf}
+use Rattle.number.specs.Number.{largestNumber, writeGroups, writeNumber, writeNumbers, zigzag, got, no, readGroups, readNumber, unzigzag, numberOf}
 
 pub record WorkedNumber : Type 0 where
   -- "Every number is in groups of seven bits, low group first, the top bit set in every byte but the number's last, in the fewest groups"
@@ -13,8 +13,9 @@ pub record WorkedNumber : Type 0 where
   groups-read :
       (readNumber (127 ∷ 5 ∷ []) ≡ got 127 (5 ∷ [])) × (readNumber (128 ∷ 1 ∷ 5 ∷ []) ≡ got 128 (5 ∷ []))
       × (readNumber (172 ∷ 2 ∷ []) ≡ got 300 []) × (readNumber (255 ∷ 127 ∷ []) ≡ got 16383 [])
-  -- "two at most"
+  -- "two at most": one that is too large is written as the largest
   largest : largestNumber ≡ 16383
+  several : (writeNumbers (3 ∷ 300 ∷ 0 ∷ []) ≡ 3 ∷ 172 ∷ 2 ∷ 0 ∷ []) × (writeNumbers (16384 ∷ 5 ∷ []) ≡ 255 ∷ 127 ∷ 5 ∷ [])
   -- "7: stored bytes end where a number must begin or go on"
   number-ends : (readNumber [] ≡ no (pos 7)) × (readNumber (128 ∷ []) ≡ no (pos 7))
   -- "8: a stored number's second byte has its top bit set (at once, before any 7), or its second group is 0"
@@ -30,12 +31,13 @@ pub record WorkedNumber : Type 0 where
       ≡ pos 0 ∷ minus 1 ∷ pos 1 ∷ minus 2 ∷ pos 2 ∷ minus 2000 ∷ pos 2000 ∷ minus 2001 ∷ pos 2001 ∷ []
 
 pub worked-number : WorkedNumber
-unfolding writeGroups readGroups
+unfolding writeGroups writeNumbers readGroups
 worked-number = record {
   one-group = (refl, refl);
   two-groups = (refl, refl, refl);
   groups-read = (refl, refl, refl, refl);
   largest = refl;
+  several = (refl, refl);
   number-ends = (refl, refl);
   number-wrong = (refl, refl, refl);
   answers = (refl, refl);

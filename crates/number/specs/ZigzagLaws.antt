@@ -1,16 +1,17 @@
 -- Signed numbers, as they are stored. To cite:
 --   unzigzag-zigzag, zigzag-unzigzag   there and back
---   below-size, zigzag-below, zigzag-else   what is stored, by the size of the number
+--   zigzag-below, zigzag-else   what is stored, by twice the number
 --   zigzag-small, unzigzag-small   of a small number a small one, and back
 -- Assumes nothing.
 use mathlib.Core.Path.{_≡_, refl}
 use mathlib.Core.Bool.{Bool, true, false, cond}
-use Prim.Native.Nat.{ℕ, _+_, _*_, _-_, _/_, _%_, _≤_}
+use Prim.Native.Nat.{ℕ, _+_, _*_, _/_, _%_, _≤_}
 use native.Mathlib.Omega.{arith}
 use borrow.Author.Tests.{eqb-true, eqb-false}
-use lib.Dec.{eqb, ltb→lt}
-use lib.IntN.{ℤ, pos, negsuc, natAbs}
+use lib.Dec.{eqb}
+use lib.IntN.{ℤ, pos, negsuc, natAbs, _-ℤ_, _*ℤ_}
 use lib.Signed.{_<ℤ_, _≤ℤ_}
+use Rattle.whole.specs.Linear.{diffs}
 use Rattle.number.specs.Number.{zigzag, unzigzag}
 
 pub unzigzag-zigzag : (z : ℤ) → unzigzag (zigzag z) ≡ z
@@ -30,17 +31,13 @@ zigzag-unzigzag n = go (eqb (n % 2) 0) (eqb-true (n % 2) 0) (eqb-false (n % 2) 0
     go true y m = let even = y refl in omega arith
     go false y m = let odd = m refl in omega arith
 
-pub zigzag-below : (z : ℤ) → z <ℤ pos 0 → 2 * natAbs z - 1 ≡ zigzag z
-zigzag-below (pos n) h = let l = ltb→lt n 0 (h .lt) in absurd (omega arith)
-zigzag-below (negsuc n) h = omega arith
+pub zigzag-below : (z : ℤ) → (pos 2 *ℤ z) <ℤ pos 0 → (pos 0 -ℤ (pos 2 *ℤ z)) -ℤ pos 1 ≡ pos (zigzag z)
+zigzag-below (pos n) h = let h′ = simp diffs at h in absurd (omega arith)
+zigzag-below (negsuc n) h = simp diffs (omega arith)
 
-pub below-size : (z : ℤ) → z <ℤ pos 0 → 1 ≤ natAbs z
-below-size (pos n) h = let l = ltb→lt n 0 (h .lt) in absurd (omega arith)
-below-size (negsuc n) h = omega arith
-
-pub zigzag-else : (z : ℤ) → pos 0 ≤ℤ z → 2 * natAbs z ≡ zigzag z
-zigzag-else (pos n) h = refl
-zigzag-else (negsuc n) h = absurd (h .le)
+pub zigzag-else : (z : ℤ) → pos 0 ≤ℤ (pos 2 *ℤ z) → pos 2 *ℤ z ≡ pos (zigzag z)
+zigzag-else (pos n) h = simp diffs (omega arith)
+zigzag-else (negsuc n) h = let h′ = simp diffs at h in absurd (omega arith)
 
 pub zigzag-small : (z : ℤ) (most : ℕ) → natAbs z ≤ most → zigzag z ≤ 2 * most
 zigzag-small (pos n) most h = omega arith

@@ -23,7 +23,7 @@ use Rattle.whole.specs.Tests.{cond-by, lt-ltZ}
 use Rattle.sheet.specs.declared.Object.{Object}
 use Rattle.sheet.specs.Figure.{Vec, vec, Figure, segment, ray, line, side, sideOf, figure, figureOf}
 use Rattle.sheet.specs.Refusal.{Accepted}
-use Rattle.sheet.specs.Lists.{countOf, objectAt}
+use Rattle.sheet.specs.Lists.{countOf}
 use Rattle.sheet.specs.Listable.{Listable}
 use Rattle.sheet.specs.RefusalLaws.{WithinBoth, Taken, a-segment, a-ray, a-line, a-side, accepted-taken}
 use Rattle.screen.specs.declared.SheetBox.{SheetBox}

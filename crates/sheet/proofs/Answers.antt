@@ -20,6 +20,7 @@ use Rattle.sheet.proofs.is_beyond.Reads as is-beyond
 use Rattle.sheet.proofs.object_refusal.Reads as object-refusal
 use Rattle.sheet.proofs.lists.object_at.Reads as object-at
 use Rattle.sheet.proofs.lists.list_refusal.Reads as list-refusal
+use Rattle.sheet.proofs.lent.behind.Reads as behind
 use Rattle.sheet.proofs.lent.put_byte.Reads as put-byte
 use Rattle.sheet.proofs.lent.put_numbers.Reads as put-numbers
 
@@ -64,6 +65,10 @@ pub object-at-answer :
 object-at-answer κs l i r s p q = p ∙ sym q
 
 -- the place behind, and the lent cells afterwards
+
+pub behind-answer :
+    (κs : Lfts 0) (at count r s : ℕ) → behind.Post κs (at, (count, tt)) r (at, (count, tt)) → behind.Post κs (at, (count, tt)) s (at, (count, tt)) → r ≡ s
+behind-answer κs at count r s p q = p ∙ sym q
 
 pub put-byte-answer :
     (κs : Lfts 1) (b : ℕ) (out d e : RefT (List ℕ)) (at r s : ℕ)

@@ -3,9 +3,9 @@
 --   filled-front     a call that is not refused has its whole result at the front
 --   sets-two         one piece behind the other is both at once
 --   sets-front       a piece at the front: the piece, and then what stood behind it
---   set-past, sets-past, sets-short   what has no cell is not put; a piece is put as far as there are cells
+--   sets-short       a piece is put as far as there are cells
 --   clipped-is, clipped-past          a place up to the largest is answered as it is, and one past it as the largest
---   wrote-none, wrote-two  nothing was put; one piece behind the other
+--   wrote-none, wrote-one, wrote-past, wrote-two  nothing was put; one number; a piece for which there are no cells; one piece behind the other
 --   wrote-as         the piece in other words
 --   wrote-length     as many cells as before
 --   wrote-size, wrote-short, wrote-room   a piece that was put at the front tells its length, and whether other cells have room for it
@@ -114,12 +114,12 @@ module _ {A : Type 0} where
       let e : 0 + length vs ≡ length vs = omega arith in
       sets-eq vs d 0 (omega arith) ∙ ap (λ (k : ℕ). vs ++ drop k d) e
 
-  pub set-past : (d : List A) (i : ℕ) (b : A) → length d ≤ i → set d i b ≡ d
+  set-past : (d : List A) (i : ℕ) (b : A) → length d ≤ i → set d i b ≡ d
   set-past [] i b h = refl
   set-past (x ∷ d) zero b h = absurd (omega arith)
   set-past (x ∷ d) (suc i) b h = ap (λ (l : List A). x ∷ l) (set-past d i b (omega arith))
 
-  pub sets-past : (d s : List A) (i : ℕ) → length d ≤ i → sets d i s ≡ d
+  sets-past : (d s : List A) (i : ℕ) → length d ≤ i → sets d i s ≡ d
   sets-past d [] i h = refl
   sets-past d (x ∷ s) i h = ap (λ (l : List A). sets l (suc i) s) (set-past d i x h) ∙ sets-past d s (suc i) (omega arith)
 
@@ -146,6 +146,12 @@ module _ {A : Type 0} where
   wrote-none {d} {at} h m =
       let e : at + 0 ≡ at = omega arith in
       record { cells = refl; place = sym (ap clipped e ∙ clipped-is m); lent = h }
+
+  pub wrote-one : {d : List A} {at : ℕ} {x : A} → length d ≤ largest → at < length d → Wrote d (set d at x) at (at + 1) (x ∷ [])
+  wrote-one h m = record { cells = refl; place = sym (clipped-is (omega arith)); lent = h }
+
+  pub wrote-past : {d b : List A} {at next : ℕ} → length d ≤ largest → length d ≤ at → next ≡ clipped (at + length b) → Wrote d d at next b
+  wrote-past {d} {b} {at} h past e = record { cells = sym (sets-past d b at past); place = e; lent = h }
 
   module _ {d d′ : List A} {at next : ℕ} {b : List A} (w : Wrote d d′ at next b) where
     pub wrote-length : length d′ ≡ length d

@@ -11,7 +11,7 @@ ghost use Rattle.sheet.specs.Lent.{clipped, Wrote};
 const LARGEST: usize = usize::MAX;
 
 // The place so many cells behind a place; the largest, where there is none.
-fn behind(at: usize, count: usize) -> usize
+pub fn behind(at: usize, count: usize) -> usize
     ensures { λ r. ⌜ r ≡ clipped (at + count) ⌝ }
 {
     if LARGEST - at < count {
@@ -26,19 +26,23 @@ pub fn put_byte(b: u8, out: &mut [u8], at: usize) -> usize
 {
     if at < out.len() {
         out[at] = b;
+        return at + 1;
     }
     behind(at, 1)
 }
 
-// The first so many of some numbers, at a place of a list that has room for them.
+// The first so many of some numbers, at a place of a list that has room for them. It goes over all of them, so that numbers of which the
+// compiler knows how many they are stay in registers.
 fn copy_numbers(numbers: &[i64], count: usize, out: &mut [i64], at: usize)
     requires { ⌜ (count ≤ length (now numbers)) × (at + count ≤ length (now out)) ⌝ }
     ensures { λ _. ⌜ now (out .exit) ≡ sets (now (out .entry)) at (take count (now (numbers .entry))) ⌝ }
 {
     let mut i = 0;
-    while i < count {
-        let n = numbers[i];
-        out[at + i] = n;
+    while i < numbers.len() {
+        if i < count {
+            let n = numbers[i];
+            out[at + i] = n;
+        }
         i += 1;
     }
 }

@@ -97,22 +97,17 @@ pub fn write_drawing(list: &[i64], out: &mut [u8]) -> Written
     if refusal != 0 {
         return Written { refusal, length: 0 };
     }
-    if LONGEST <= out.len() {
-        let written = write_all(list, out);
-        return Written {
-            refusal: 0,
-            length: written,
-        };
+    if out.len() < LONGEST {
+        let mut nowhere = [0; 0];
+        let needed = write_all(list, &mut nowhere);
+        if out.len() < needed {
+            return Written {
+                refusal: NO_ROOM,
+                length: needed,
+            };
+        }
     }
-    let mut nowhere = [0; 0];
-    let length = write_all(list, &mut nowhere);
-    if out.len() < length {
-        return Written {
-            refusal: NO_ROOM,
-            length,
-        };
-    }
-    write_all(list, out);
+    let length = write_all(list, out);
     Written { refusal: 0, length }
 }
 

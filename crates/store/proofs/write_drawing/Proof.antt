@@ -2,6 +2,7 @@
 -- the drawing. Each way out is one of the three ends.
 use borrow.Author.Needs.{needs}
 use mathlib.Core.Path.{_≡_, refl, _∙_}
+use mathlib.Core.Logic.{⊎-elim}
 use mathlib.Core.List.{List}
 use Prim.Native.Nat.{ℕ, _≤_}
 use native.Mathlib.Omega.{arith}
@@ -38,12 +39,9 @@ write-all-requires c κs = listable (c .before .before .before .before .before .
 returns-2 : tie.Need-returns-2
 returns-2 c =
     let s = c .before .before .before .before .before .before .before .before in
-    let list = s .args .list .now in
-    let lent = s .args .out .now in
     let z = taken (c .before .before .before .before .before) in
-    let w = c .before .before .write-all .ensures in
-    let room : length (writeDrawing list) ≤ length lent = omega (arith, write-no-longer list z, c .before .before .before .before .if2 .taken) in
-    write-ends list lent (done z room (long list z w) refl (wrote-front w room))
+    let size = long (s .args .list .now) z (c .before .before .write-all .ensures) in
+    write-ends (s .args .list .now) (s .args .out .now) (short z (omega (arith, c .if3 .taken)) size)
 
 write-all-requires-2 : tie.Need-write-all-requires-2
 write-all-requires-2 c κs = listable (c .before .before .before .before .before .args .list .now) (taken (c .before .before))
@@ -51,22 +49,13 @@ write-all-requires-2 c κs = listable (c .before .before .before .before .before
 returns-3 : tie.Need-returns-3
 returns-3 c =
     let s = c .before .before .before .before .before .before .before .before in
-    let z = taken (c .before .before .before .before .before) in
-    let size = long (s .args .list .now) z (c .before .before .write-all2 .ensures) in
-    write-ends (s .args .list .now) (s .args .out .now) (short z (omega (arith, c .if3 .taken)) size)
-
-write-all-requires-3 : tie.Need-write-all-requires-3
-write-all-requires-3 c κs = listable (c .before .before .before .before .before .before .before .before .before .args .list .now) (taken (c .before .before .before .before .before .before))
-
-returns-4 : tie.Need-returns-4
-returns-4 c =
-    let s = c .before .before .before .before .before .before .before .before .before .before .before .before in
     let list = s .args .list .now in
     let lent = s .args .out .now in
-    let z = taken (c .before .before .before .before .before .before .before .before .before) in
-    let size = long (s .args .list .now) z (c .before .before .before .before .before .before .write-all2 .ensures) in
-    let room : length (writeDrawing list) ≤ length lent = omega (arith, c .before .before .before .before .if3 .left) in
-    write-ends list lent (done z room size refl (wrote-front (c .before .before .write-all3 .ensures) room))
+    let z = taken (c .before .before .before .before .before) in
+    let w = c .before .before .write-all2 .ensures in
+    let room : length (writeDrawing list) ≤ length lent =
+    ⊎-elim (λ w. omega (arith, long list z (w .2 .ensures), w .4 .left)) (λ w. omega (arith, write-no-longer list z, w .left)) (c .before .before .before .before .if2 .came) in
+    write-ends list lent (done z room (long list z w) refl (wrote-front w room))
 
 pub write-drawing-spec : {M : Type 1} → statement M
 write-drawing-spec =
@@ -74,12 +63,9 @@ write-drawing-spec =
     (tie.spec
     (λ c κs. search needs)
     returns
+    (λ c. search needs)
     write-all-requires
-    (λ c. search needs)
     returns-2
-    (λ c. search needs)
     write-all-requires-2
-    returns-3
-    write-all-requires-3
     (λ c. search needs)
-    returns-4)
+    returns-3)

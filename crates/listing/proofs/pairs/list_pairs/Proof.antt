@@ -1,5 +1,5 @@
 -- `list_pairs` meets its contract: it lacks room, or the rows stand at the front.
-use mathlib.Core.Path.{_≡_, refl, sym, ap, _∙_}
+use mathlib.Core.Path.{refl, ap, _∙_}
 use native.Mathlib.Omega.{arith}
 use lib.ListN.{length}
 use Prim.Native.Nat.{ℕ, _/_}

@@ -6,7 +6,7 @@ use Rattle.whole.specs.InTurnLaws.{between-none, between-more}
 use Rattle.sheet.specs.Lent.{Wrote}
 use Rattle.sheet.specs.LentLaws.{wrote-none, wrote-two, wrote-as, wrote-length}
 use Rattle.listing.specs.Rows.{rowsWith}
-use Rattle.listing.specs.Pairs.{Between, rowsBetween}
+use Rattle.listing.specs.Pairs.{rowsBetween}
 use borrow.Author.Needs.{needs}
 use Rattle.listing.proofs.pairs.put_rows.Statement.{statement}
 use Rattle.listing.proofs.pairs.put_rows.Tie as tie

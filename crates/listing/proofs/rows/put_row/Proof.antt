@@ -7,13 +7,12 @@ use Rattle.sheet.specs.declared.Object.{Object}
 use Rattle.sheet.specs.declared.Point.{Point}
 use Rattle.sheet.specs.Points.{numbers}
 use Rattle.sheet.specs.Refusal.{Accepted}
-use Rattle.sheet.specs.Crossing.{point, many, crossingOf}
+use Rattle.sheet.specs.Crossing.{crossingOf}
 use Rattle.sheet.specs.Lists.{objectAt}
 use Rattle.sheet.specs.LentLaws.{wrote-none, wrote-as}
 use Rattle.sheet.specs.Meetings.{meetingBy}
 use Rattle.kernel.proofs.Handed as handed
 use Rattle.listing.specs.Rows.{meetingOf}
-use Rattle.listing.specs.Pairs.{Pair}
 use Rattle.listing.specs.RowsLaws.{row-once, row-many, row-none}
 use borrow.Author.Needs.{needs}
 use Rattle.listing.proofs.rows.put_row.Statement.{statement}

@@ -1,7 +1,8 @@
--- `copy_numbers` meets its contract: after i turns the first i numbers stand there.
-use mathlib.Core.Path.{_≡_, refl, sym, ap, _∙_}
-use mathlib.Core.List.{[], _∷_, _++_}
-use Prim.Native.Nat.{ℕ, _+_, _-_, _≤_}
+-- `copy_numbers` meets its contract: after i turns those of the first i numbers stand there that are among the first `count`.
+use mathlib.Core.Path.{_≡_, sym, ap, _∙_}
+use mathlib.Core.Logic.{⊎-elim}
+use mathlib.Core.List.{List, [], _∷_, _++_}
+use Prim.Native.Nat.{ℕ, _+_, _-_, _≤_, min}
 use native.Mathlib.Numerals.{add-one}
 use native.Mathlib.Omega.{arith}
 use lib.IntN.{ℤ, pos}
@@ -14,19 +15,25 @@ use Rattle.sheet.proofs.lent.copy_numbers.Statement.{statement}
 use Rattle.sheet.proofs.lent.copy_numbers.Tie as tie
 
 abbrev Inv-loop : tie.InvT-loop
-Inv-loop numbers count out₀ at i₀ out i = (i ≤ count) × (out ≡ sets out₀ at (take i numbers))
+Inv-loop numbers count out₀ at i₀ out i = (i ≤ length numbers) × (out ≡ sets out₀ at (take (min i count) numbers))
 
 abbrev μ-loop : tie.MeasureT-loop
-μ-loop numbers count out₀ at i₀ out i = count - i
+μ-loop numbers count out₀ at i₀ out i = length numbers - i
+
+-- the cells once the first k numbers are there
+abbrev with : List ℤ → List ℤ → ℕ → ℕ → List ℤ
+with out numbers at k = sets out at (take k numbers)
 
 loop-holds : tie.Need-loop-holds Inv-loop μ-loop
-loop-holds c = (omega arith, refl)
+loop-holds c =
+    let none : 0 ≡ min 0 (c .args .count) = omega arith in
+    (omega arith, ap (with (c .args .out .now) (c .args .numbers .now) (c .args .at)) none)
 
 slice-set-from-n : tie.Need-slice-set-from-n Inv-loop μ-loop
 slice-set-from-n c =
-    let s = c .before .before .before in
-    let l = c .before .before .loop in
-    omega (arith, ap length (l .inv .1), length-sets (s .args .out .now) (s .args .at) (take (l .i) (s .args .numbers .now)))
+    let s = c .before .before .before .before in
+    let l = c .before .before .before .loop in
+    omega (arith, ap length (l .inv .1), length-sets (s .args .out .now) (s .args .at) (take (min (l .i) (s .args .count)) (s .args .numbers .now)))
 
 loop-again : tie.Need-loop-again Inv-loop μ-loop
 loop-again c =
@@ -36,23 +43,35 @@ loop-again c =
     let front = take (l .i) numbers in
     let n = getD numbers (l .i) (pos 0) in
     let long : s .args .at + l .i ≡ s .args .at + length front = omega (arith, length-take (l .i) numbers) in
-    let more : take (l .i + 1) numbers ≡ front ++ (n ∷ []) = ap (λ (k : ℕ). take k numbers) (add-one (l .i)) ∙ take-suc numbers (l .i) (pos 0) (omega arith) in (
+    let more : take (l .i + 1) numbers ≡ front ++ (n ∷ []) = ap (λ (k : ℕ). take k numbers) (add-one (l .i)) ∙ take-suc numbers (l .i) (pos 0) (omega arith) in
+    let put = with (s .args .out .now) numbers (s .args .at) in (
       omega arith,
-      (λ j. set (l .inv .1 j) (long j) (out-ok n (c .n .given) j))
+      ⊎-elim
+          (λ w.
+          let now : min (l .i) (s .args .count) ≡ l .i = omega (arith, w .0) in
+          let then : l .i + 1 ≡ min (l .i + 1) (s .args .count) = omega (arith, w .0) in
+          w .2
+          ∙ (λ j. set ((l .inv .1 ∙ ap put now) j) (long j) (out-ok n (w .1 .given) j))
           ∙ sets-two front (n ∷ []) (s .args .out .now) (s .args .at)
-          ∙ ap (sets (s .args .out .now) (s .args .at)) (sym more),
+          ∙ ap (sets (s .args .out .now) (s .args .at)) (sym more)
+          ∙ ap put then)
+          (λ w.
+          let past : min (l .i) (s .args .count) ≡ min (l .i + 1) (s .args .count) = omega (arith, w .0) in
+          w .1 ∙ l .inv .1 ∙ ap put past)
+          (c .if1 .came),
     )
 
 same-length : tie.Need-same-length Inv-loop μ-loop
 same-length c =
     let s = c .before .before in
-    ap length (c .before .loop .inv .1) ∙ length-sets (s .args .out .now) (s .args .at) (take (c .before .loop .i) (s .args .numbers .now))
+    let l = c .before .loop in
+    ap length (l .inv .1) ∙ length-sets (s .args .out .now) (s .args .at) (take (min (l .i) (s .args .count)) (s .args .numbers .now))
 
 returns : tie.Need-returns Inv-loop μ-loop
 returns c =
     let s = c .before .before in
-    let all : c .before .loop .i ≡ s .args .count = omega arith in
-    c .before .loop .inv .1 ∙ ap (λ (k : ℕ). sets (s .args .out .now) (s .args .at) (take k (s .args .numbers .now))) all
+    let all : min (c .before .loop .i) (s .args .count) ≡ s .args .count = omega arith in
+    c .before .loop .inv .1 ∙ ap (with (s .args .out .now) (s .args .numbers .now) (s .args .at)) all
 
 pub copy-numbers-spec : {M : Type 1} → statement M
 copy-numbers-spec =

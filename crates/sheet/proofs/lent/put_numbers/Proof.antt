@@ -4,19 +4,13 @@ use native.Mathlib.Omega.{arith}
 use Prim.Native.Nat.{_-_}
 use lib.ListN.{length}
 use lib.Seq.{sets, take-all}
-use Rattle.sheet.specs.LentLaws.{clipped-is, sets-past, sets-short}
+use Rattle.sheet.specs.LentLaws.{clipped-is, sets-short, wrote-past}
 use borrow.Author.Needs.{needs}
 use Rattle.sheet.proofs.lent.put_numbers.Statement.{statement}
 use Rattle.sheet.proofs.lent.put_numbers.Tie as tie
 
 returns : tie.Need-returns
-returns c =
-    let s = c .before .before in
-    record {
-      cells = sym (sets-past (s .args .out .now) (s .args .numbers .now) (s .args .at) (omega arith));
-      place = c .behind .ensures;
-      lent = omega arith;
-    }
+returns c = wrote-past (omega arith) (omega arith) (c .behind .ensures)
 
 returns-2 : tie.Need-returns-2
 returns-2 c =
