@@ -48,13 +48,13 @@ use Rattle.demand.specs.WorkedBounds.{orders-fail}
 same-crossing : {m n : Meeting} → crossingBy m ≡ crossingBy n → m ≡ n
 same-crossing {m} {n} e = sym (crossing-met m) ∙ ap meetingBy e ∙ crossing-met n
 
-abbrev Given : Crossing → Type 0
-Given crossing.Nothing = Unit {0}
-Given (crossing.Once p) = Unit {0}
-Given crossing.Many = Unit {0}
-Given (crossing.Refused n) = ⊥
+abbrev NotRefused : Crossing → Type 0
+NotRefused crossing.Nothing = Unit {0}
+NotRefused (crossing.Once p) = Unit {0}
+NotRefused crossing.Many = Unit {0}
+NotRefused (crossing.Refused n) = ⊥
 
-crossing-given : (m : Meeting) → Given (crossingBy m)
+crossing-given : (m : Meeting) → NotRefused (crossingBy m)
 crossing-given none = tt
 crossing-given (point p) = tt
 crossing-given many = tt
@@ -99,7 +99,7 @@ module _ (R : ℤ) (d : Holds R) where
 
   exactly : {a b : Object} → CrossingHolds R a b → Exactly R a b (crossingBy (crossingOf a b))
   exactly {a} {b} h = record {
-    not-refused = λ n e. subst Given e (crossing-given (crossingOf a b));
+    not-refused = λ n e. subst NotRefused e (crossing-given (crossingOf a b));
     point-said = λ e q. h .point-said e (same-crossing q);
     point-when = λ P o.
         let w = h .point-when P o in record { e = w .e; is-said = ap crossingBy (w .is-said); above = w .above; there = w .there };

@@ -11,15 +11,15 @@ use Rattle.whole.specs.Flat.{back, within-out}
 use Rattle.whole.specs.Bound.{fits64}
 use Rattle.whole.specs.Tests.{out, Fit, gave}
 use Rattle.sheet.specs.declared.Point.{Point}
-use Rattle.sheet.specs.Sizes.{Sizes}
-use Rattle.kernel.specs.Bounds.{Coordinate}
+use Rattle.sheet.specs.PointSizes.{PointSizes}
+use Rattle.kernel.specs.Bounds.{CoordinateBounds}
 use Rattle.kernel.proofs.Handed.{by-five, pointOf, pointOut}
 
-module _ {p : Point} (s : Sizes p) where
-  pub x-of : Coordinate (p .mx) (p .nx) (p .w)
+module _ {p : Point} (s : PointSizes p) where
+  pub x-of : CoordinateBounds (p .mx) (p .nx) (p .w)
   x-of = record { bm = s .in-mx; bn = s .in-nx; bw = s .in-w .at-most }
 
-  pub y-of : Coordinate (p .my) (p .ny) (p .w)
+  pub y-of : CoordinateBounds (p .my) (p .ny) (p .w)
   y-of = record { bm = s .in-my; bn = s .in-ny; bw = s .in-w .at-most }
 
   pub point-out : pointOut p ≡ p
@@ -27,7 +27,7 @@ module _ {p : Point} (s : Sizes p) where
       by-five
       (fits64 (s .in-mx) tt) (fits64 (s .in-nx) tt) (fits64 (s .in-my) tt) (fits64 (s .in-ny) tt) (fits64 (s .in-w .at-most) tt) pointOf
 
-pub coordinate-out : {m n w : ℤ} → Coordinate m n w → Coordinate (out m) (out n) (out w)
+pub coordinate-out : {m n w : ℤ} → CoordinateBounds m n w → CoordinateBounds (out m) (out n) (out w)
 coordinate-out c = record {
   bm = within-out (c .bm) tt;
   bn = within-out (c .bn) tt;
@@ -35,7 +35,7 @@ coordinate-out c = record {
 }
 
 pub along-out :
-    {m n w m2 n2 w2 : ℤ} → Coordinate m n w → Coordinate m2 n2 w2
+    {m n w m2 n2 w2 : ℤ} → CoordinateBounds m n w → CoordinateBounds m2 n2 w2
     → orElse (sgn (out m *ℤ out w2 -ℤ out m2 *ℤ out w)) (sgn (out n *ℤ out w2 -ℤ out n2 *ℤ out w))
     ≡ orElse (sgn (m *ℤ w2 -ℤ m2 *ℤ w)) (sgn (n *ℤ w2 -ℤ n2 *ℤ w))
 along-out c d =

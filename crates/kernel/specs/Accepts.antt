@@ -9,13 +9,13 @@ use Rattle.sheet.specs.declared.Object.{Object}
 use Rattle.sheet.specs.declared.Point.{Point}
 use Rattle.sheet.specs.Refusal.{Accepted}
 use Rattle.sheet.specs.Points.{isPoint, narrow}
-use Rattle.sheet.specs.Sizes.{Sizes}
+use Rattle.sheet.specs.PointSizes.{PointSizes}
 use Rattle.sheet.specs.PointsLaws.{narrow-is, point-is, point-sizes}
 use Rattle.sheet.specs.Signs.{orderRefusal, turnRefusal, sideSignRefusal}
 use Rattle.sheet.specs.AcceptsLaws.{order-taken, turn-taken, side-taken}
 use Rattle.kernel.specs.Bounds.{NarrowSizes}
 
-sizes : (p : Point) → isPoint p ≡ true → Sizes p
+sizes : (p : Point) → isPoint p ≡ true → PointSizes p
 sizes p h = point-sizes (point-is p .0 h)
 
 narrow-sizes : (p : Point) → isPoint p ≡ true → narrow p ≡ true → NarrowSizes p
@@ -30,11 +30,11 @@ narrow-sizes p h k =
       bny = n .in-ny;
     }
 
-pub order-accepts : (p q : Point) → orderRefusal p q ≡ pos 0 → Sizes p × Sizes q
+pub order-accepts : (p q : Point) → orderRefusal p q ≡ pos 0 → PointSizes p × PointSizes q
 order-accepts p q h = let t = order-taken p q h in (sizes p (t .0), sizes q (t .1))
 
 pub turn-accepts : (p q s : Point) → turnRefusal p q s ≡ pos 0 → NarrowSizes p × NarrowSizes q × NarrowSizes s
 turn-accepts p q s h = let t = turn-taken p q s h in (narrow-sizes p (t .0) (t .3), narrow-sizes q (t .1) (t .4), narrow-sizes s (t .2) (t .5))
 
-pub side-accepts : (o : Object) (s : Point) → sideSignRefusal o s ≡ pos 0 → Accepted o × Sizes s
+pub side-accepts : (o : Object) (s : Point) → sideSignRefusal o s ≡ pos 0 → Accepted o × PointSizes s
 side-accepts o s h = let t = side-taken o s h in (t .0, sizes s (t .1))

@@ -23,7 +23,7 @@ pub record Raw (mx nx my ny w : ℤ) : Type 0 where
   pub above : pos 0 <ℤ w
 
 -- one of them, and the divisor
-pub record Part (n : ℤ) (g : ℕ) : Type 0 where
+pub record PartBounds (n : ℤ) (g : ℕ) : Type 0 where
   pub bn : Within 64000000000 n
   pub above : 0 < g
   pub small : g ≤ 64000000000
@@ -43,7 +43,7 @@ pub record Ahead (px py dx dy : ℤ) : Type 0 where
   pub moves : dx ≡ pos 0 → dy ≡ pos 0 → ⊥
 
 -- one coordinate of a point, by its numbers m, n and w
-pub record Coordinate (m n w : ℤ) : Type 0 where
+pub record CoordinateBounds (m n w : ℤ) : Type 0 where
   pub bm : Within 4000 m
   pub bn : Within 64000000000 n
   pub bw : Within 32000000 w
@@ -63,7 +63,7 @@ pub record NarrowSizes (p : Point) : Type 0 where
   pub bny : Within 8000000 (p .ny)
 
 -- two given points
-pub record Pair (px py qx qy : ℤ) : Type 0 where
+pub record TwoPoints (px py qx qy : ℤ) : Type 0 where
   pub bpx : Within 2000 px
   pub bpy : Within 2000 py
   pub bqx : Within 2000 qx

@@ -38,18 +38,18 @@ abbrev pub isFlat : ℤ → ℤ → ℤ → Bool
 isFlat dx dy k = ltZ (size dy) (size dx) || (eqZ (size dx) (size dy) && leZ (sgn dx *ℤ sgn dy *ℤ k) (pos 0))
 
 -- which form the test finds, and that its w is above 0
-data Form (dx dy k : ℤ) : Bool → Type 0 where
-  is-flat : farRaw dx dy k ≡ flat dx dy k → pos 0 <ℤ size dx → Form dx dy k true
-  is-steep : farRaw dx dy k ≡ steep dx dy k → pos 0 <ℤ size dy → Form dx dy k false
+data FarForm (dx dy k : ℤ) : Bool → Type 0 where
+  is-flat : farRaw dx dy k ≡ flat dx dy k → pos 0 <ℤ size dx → FarForm dx dy k true
+  is-steep : farRaw dx dy k ≡ steep dx dy k → pos 0 <ℤ size dy → FarForm dx dy k false
 
 module _ (dx dy k : ℤ) where
-  form : (dx ≡ pos 0 → dy ≡ pos 0 → ⊥) → Form dx dy k (isFlat dx dy k)
+  form : (dx ≡ pos 0 → dy ≡ pos 0 → ⊥) → FarForm dx dy k (isFlat dx dy k)
   form n = go (far dx dy k)
     where
-      by : {t : Bool} → isFlat dx dy k ≡ t → Form dx dy k t → Form dx dy k (isFlat dx dy k)
-      by e = subst (Form dx dy k) (sym e)
+      by : {t : Bool} → isFlat dx dy k ≡ t → FarForm dx dy k t → FarForm dx dy k (isFlat dx dy k)
+      by e = subst (FarForm dx dy k) (sym e)
 
-      go : Far dx dy k → Form dx dy k (isFlat dx dy k)
+      go : Far dx dy k → FarForm dx dy k (isFlat dx dy k)
       go (flatter l e) = by (simp (lt-ltZ l)) (is-flat e (≤-<-trans (nn-pos (natAbs dy)) l))
       go (steeper l e) =
           by (simp (le-ltZ (<-≤ l), ne-eqZ (λ q. clashℤ l (≤-of (sym q))))) (is-steep e (≤-<-trans (nn-pos (natAbs dx)) l))
@@ -58,15 +58,15 @@ module _ (dx dy k : ℤ) where
           by (simp (eq-eqZ (sym q), le-ltZ (≤-of (sym q)), lt-leZ t)) (is-steep e (moving dy dx (sym q) (λ y x. n x y)))
 
   pub flat-form : (dx ≡ pos 0 → dy ≡ pos 0 → ⊥) → isFlat dx dy k ≡ true → (farRaw dx dy k ≡ flat dx dy k) × (pos 0 <ℤ size dx)
-  flat-form n h = go (subst (Form dx dy k) h (form n))
+  flat-form n h = go (subst (FarForm dx dy k) h (form n))
     where
-      go : Form dx dy k true → (farRaw dx dy k ≡ flat dx dy k) × (pos 0 <ℤ size dx)
+      go : FarForm dx dy k true → (farRaw dx dy k ≡ flat dx dy k) × (pos 0 <ℤ size dx)
       go (is-flat e a) = (e, a)
 
   pub steep-form : (dx ≡ pos 0 → dy ≡ pos 0 → ⊥) → isFlat dx dy k ≡ false → (farRaw dx dy k ≡ steep dx dy k) × (pos 0 <ℤ size dy)
-  steep-form n h = go (subst (Form dx dy k) h (form n))
+  steep-form n h = go (subst (FarForm dx dy k) h (form n))
     where
-      go : Form dx dy k false → (farRaw dx dy k ≡ steep dx dy k) × (pos 0 <ℤ size dy)
+      go : FarForm dx dy k false → (farRaw dx dy k ≡ steep dx dy k) × (pos 0 <ℤ size dy)
       go (is-steep e a) = (e, a)
 
   -- sx |dx| is dx

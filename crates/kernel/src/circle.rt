@@ -23,7 +23,7 @@ ghost use Rattle.sheet.specs.Answers.{answer, signedSays};
 ghost use Rattle.sheet.specs.Circle.{sideOfCircle, givenRefusal, circleRefusal};
 ghost use Rattle.sheet.specs.CirclePoints.{Given, Fourth};
 ghost use Rattle.sheet.specs.CircleForms.{givenForm, frameForm};
-ghost use Rattle.kernel.specs.Bounds.{ThreePoints, FourPoints, Coordinate};
+ghost use Rattle.kernel.specs.Bounds.{ThreePoints, FourPoints, CoordinateBounds};
 
 // Of four given points.
 fn given_circle(px: i64, py: i64, qx: i64, qy: i64, sx: i64, sy: i64, ux: i64, uy: i64) -> i64
@@ -59,7 +59,7 @@ fn frame_circle(
     ny: i64,
     w: i64,
 ) -> i64
-    requires { ⌜ ThreePoints px py qx qy sx sy × Coordinate mx nx w × Coordinate my ny w ⌝ }
+    requires { ⌜ ThreePoints px py qx qy sx sy × CoordinateBounds mx nx w × CoordinateBounds my ny w ⌝ }
     ensures { λ r. ⌜ r ≡ frameForm (vec px py) (vec qx qy) (vec sx sy) (record { mx = mx; nx = nx; my = my; ny = ny; w = w }) ⌝ }
 {
     let ax = qx - px;

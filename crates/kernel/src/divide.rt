@@ -7,7 +7,7 @@ ghost use lib.Signed.{quotZ};
 ghost use Rattle.whole.specs.Divisor.{gcdOf};
 ghost use Rattle.whole.specs.EitherWay.{EitherWay};
 ghost use Rattle.sheet.specs.Points.{divided};
-ghost use Rattle.kernel.specs.Bounds.{Raw, Part};
+ghost use Rattle.kernel.specs.Bounds.{Raw, PartBounds};
 
 // Two sizes, the smaller one first; but of two that are not both 0, a 0 is second.
 struct Two {
@@ -49,7 +49,7 @@ pub fn divisor(mx: i64, nx: i64, my: i64, ny: i64, w: i64) -> u64
 }
 
 fn part(n: i64, g: u64) -> i64
-    requires { ⌜ Part n g ⌝ }
+    requires { ⌜ PartBounds n g ⌝ }
     ensures { λ r. ⌜ r ≡ quotZ n (pos g) ⌝ }
 {
     n / g as i64

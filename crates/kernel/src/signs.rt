@@ -13,18 +13,18 @@ ghost use Rattle.whole.specs.Sign.{sgn};
 ghost use Rattle.whole.specs.Choice.{orElse};
 ghost use Rattle.sheet.specs.Figure.{sideOf, side};
 ghost use Rattle.sheet.specs.Refusal.{Accepted};
-ghost use Rattle.sheet.specs.Sizes.{Sizes};
+ghost use Rattle.sheet.specs.PointSizes.{PointSizes};
 ghost use Rattle.sheet.specs.Signs.{order, turn, sideOfFigure, sideSign, orderRefusal, wideRefusal, turnRefusal, sideSignRefusal};
 ghost use Rattle.sheet.specs.Coefficients.{orderX, orderY, det, turnA, turnC};
 ghost use Rattle.sheet.specs.Answers.{answer, signedSays};
 ghost use Rattle.kernel.specs.Forms.{pairSide};
-ghost use Rattle.kernel.specs.Bounds.{Coordinate, Row, NarrowSizes, Pair};
+ghost use Rattle.kernel.specs.Bounds.{CoordinateBounds, Row, NarrowSizes, TwoPoints};
 
 // ---- order
 
 // Of one coordinate, (m R + n)/w against (m2 R + n2)/w2.
 fn along(m: i64, n: i64, w: i64, m2: i64, n2: i64, w2: i64) -> i64
-    requires { ⌜ Coordinate m n w × Coordinate m2 n2 w2 ⌝ }
+    requires { ⌜ CoordinateBounds m n w × CoordinateBounds m2 n2 w2 ⌝ }
     ensures { λ r. ⌜ r ≡ orElse (sgn (m *ℤ w2 -ℤ m2 *ℤ w)) (sgn (n *ℤ w2 -ℤ n2 *ℤ w)) ⌝ }
 {
     let a = m * w2 - m2 * w;
@@ -33,21 +33,21 @@ fn along(m: i64, n: i64, w: i64, m2: i64, n2: i64, w2: i64) -> i64
 }
 
 fn order_x(p: Point, q: Point) -> i64
-    requires { ⌜ Sizes p × Sizes q ⌝ }
+    requires { ⌜ PointSizes p × PointSizes q ⌝ }
     ensures { λ r. ⌜ r ≡ orderX p q ⌝ }
 {
     along(p.mx, p.nx, p.w, q.mx, q.nx, q.w)
 }
 
 fn order_y(p: Point, q: Point) -> i64
-    requires { ⌜ Sizes p × Sizes q ⌝ }
+    requires { ⌜ PointSizes p × PointSizes q ⌝ }
     ensures { λ r. ⌜ r ≡ orderY p q ⌝ }
 {
     along(p.my, p.ny, p.w, q.my, q.ny, q.w)
 }
 
 fn order_of(p: Point, q: Point) -> i64
-    requires { ⌜ Sizes p × Sizes q ⌝ }
+    requires { ⌜ PointSizes p × PointSizes q ⌝ }
     ensures { λ r. ⌜ r ≡ order p q ⌝ }
 {
     lead(order_x(p, q), order_y(p, q))
@@ -160,7 +160,7 @@ pub(crate) fn pair_side(
     ny: i64,
     w: i64,
 ) -> i64
-    requires { ⌜ Pair px py qx qy × Coordinate mx nx w × Coordinate my ny w ⌝ }
+    requires { ⌜ TwoPoints px py qx qy × CoordinateBounds mx nx w × CoordinateBounds my ny w ⌝ }
     ensures { λ r. ⌜ r ≡ pairSide px py qx qy mx nx my ny w ⌝ }
 {
     let dx = qx - px;
@@ -173,7 +173,7 @@ pub(crate) fn pair_side(
 
 // Of side n of the frame: how far the point is inside of it.
 fn frame_side(n: i64, mx: i64, nx: i64, my: i64, ny: i64, w: i64) -> i64
-    requires { ⌜ Coordinate mx nx w × Coordinate my ny w ⌝ }
+    requires { ⌜ CoordinateBounds mx nx w × CoordinateBounds my ny w ⌝ }
     ensures { λ r. ⌜ r ≡ sideOfFigure (side (sideOf n)) (record { mx = mx; nx = nx; my = my; ny = ny; w = w }) ⌝ }
 {
     if n == 1 {
@@ -189,7 +189,7 @@ fn frame_side(n: i64, mx: i64, nx: i64, my: i64, ny: i64, w: i64) -> i64
 }
 
 fn side_sign(o: Object, s: Point) -> i64
-    requires { ⌜ Accepted o × Sizes s ⌝ }
+    requires { ⌜ Accepted o × PointSizes s ⌝ }
     ensures { λ r. ⌜ r ≡ sideSign o s ⌝ }
 {
     let kind = o.kind;

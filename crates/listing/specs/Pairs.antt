@@ -22,7 +22,7 @@ pub record Pair (l : List ℤ) (i j : ℕ) : Type 0 where
 abbrev pub rowsBetween : List ℤ → ℕ → ℕ → List ℤ
 rowsBetween l from to = allBetween (λ i. rowsWith l i) from to
 
-pub record Between (l : List ℤ) (from to : ℕ) : Type 0 where
+pub record Section (l : List ℤ) (from to : ℕ) : Type 0 where
   pub list : Listable l
   pub order : from ≤ to
   pub end : to ≤ countOf l

@@ -24,7 +24,7 @@ use Rattle.sheet.specs.Points.{numbers}
 use Rattle.sheet.specs.Crossing.{Meeting, none, point, many}
 use Rattle.sheet.specs.Lists.{rowWidth, countOf}
 use Rattle.listing.specs.Rows.{meetingOf, isSome, makesRow, shared, rowOf, rowsWith, rowsOf, pairCount, sharingWith, sharing}
-use Rattle.listing.specs.Pairs.{rowsBetween, Between, pairsOf}
+use Rattle.listing.specs.Pairs.{rowsBetween, Section, pairsOf}
 
 -- ---- one pair
 
@@ -115,7 +115,7 @@ step a b p′ q k e next pairs few = omega arith
 
 -- no more than every pair: those of the objects from `from` on, less those of the objects from `to` on
 pub between-most :
-    {l : List ℤ} {from to : ℕ} → Between l from to
+    {l : List ℤ} {from to : ℕ} → Section l from to
     → length (rowsBetween l from to) + pairsOf (countOf l - to) * rowWidth ≤ pairsOf (countOf l - from) * rowWidth
 between-most {l} {from} {to} b = le-ind Most start more to (b .order) (b .end)
   where
@@ -135,7 +135,7 @@ between-most {l} {from} {to} b = le-ind Most start more to (b .order) (b .end)
         step (length rows) (length (rowsWith l to)) (pairsOf (countOf l - suc to)) (pairsOf (countOf l - from)) left (e (omega arith)) next (ap pairsOf one ∙ pairs-more left ∙ ap (λ (k : ℕ). pairsOf k + left) (sym same)) (rows-with-most l to)
 
 -- and so they can be counted
-pub between-fits : {l : List ℤ} {from to : ℕ} → Between l from to → length (rowsBetween l from to) ≤ most * most * rowWidth
+pub between-fits : {l : List ℤ} {from to : ℕ} → Section l from to → length (rowsBetween l from to) ≤ most * most * rowWidth
 between-fits {l} {from} b =
     let few : countOf l - from ≤ most = omega (arith, b .list .few) in
     omega (arith, between-most b, pairs-fit few)

@@ -14,7 +14,7 @@ ghost use Rattle.sheet.specs.Lent.{Wrote};
 ghost use Rattle.sheet.specs.Lists.{countOf};
 ghost use Rattle.sheet.specs.Listable.{Listable};
 ghost use Rattle.listing.specs.Rows.{rowsWith};
-ghost use Rattle.listing.specs.Pairs.{Between, rowsBetween, pairsOf, lacking, Listing};
+ghost use Rattle.listing.specs.Pairs.{Section, rowsBetween, pairsOf, lacking, Listing};
 
 // The rows of object i with all later ones, from a place of the lent list on. Gives the place behind them.
 fn put_rows_with(list: &[i64], i: usize, out: &mut [i64], at: usize) -> usize
@@ -34,7 +34,7 @@ fn put_rows_with(list: &[i64], i: usize, out: &mut [i64], at: usize) -> usize
 
 // The rows of the objects from one on before another, each with all later ones, at the front of the lent list. Gives the place behind them.
 fn put_rows(list: &[i64], from: usize, to: usize, out: &mut [i64]) -> usize
-    requires { ⌜ Between (now list) from to ⌝ }
+    requires { ⌜ Section (now list) from to ⌝ }
     ensures { λ r. ⌜ Wrote (now (out .entry)) (now (out .exit)) 0 r (rowsBetween (now (list .entry)) from to) ⌝ }
 {
     let mut next = 0;
@@ -57,7 +57,7 @@ fn pairs_of(n: usize) -> usize
 
 // 0 where the rows have room, else the length that they need. Where there is room for every pair, nothing is counted.
 fn lacking_room(list: &[i64], from: usize, to: usize, room: usize) -> usize
-    requires { ⌜ Between (now list) from to ⌝ }
+    requires { ⌜ Section (now list) from to ⌝ }
     ensures { λ r. ⌜ r ≡ lacking (length (rowsBetween (now (list .entry)) from to)) room ⌝ }
 {
     let n = list.len() / Object::WIDTH;
@@ -75,7 +75,7 @@ fn lacking_room(list: &[i64], from: usize, to: usize, room: usize) -> usize
 
 // The rows of the objects from one on before another, each with all later ones, of a list that is not refused.
 pub(crate) fn list_pairs(list: &[i64], from: usize, to: usize, out: &mut [i64]) -> Listed
-    requires { ⌜ Between (now list) from to ⌝ }
+    requires { ⌜ Section (now list) from to ⌝ }
     ensures { λ r. ⌜ Listing (rowsBetween (now (list .entry)) from to) (now (out .entry)) r (now (out .exit)) ⌝ }
 {
     let need = lacking_room(list, from, to, out.len());

@@ -4,7 +4,7 @@ pub mod Number
 pub mod WorkedNumber
 -- what the code's inner functions say
 pub mod ReadAs
-pub mod AllSmall
+pub mod Storable
 -- laws
 pub mod GroupsLaws
 pub mod WrittenLaws

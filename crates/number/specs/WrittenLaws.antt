@@ -17,7 +17,7 @@ use lib.ListN.{length, getD, take, drop, length-append, take-append-drop}
 use lib.Seq.{take-suc}
 use Rattle.sheet.specs.Flags.{both}
 use Rattle.number.specs.Number.{moreGroups, numberLimit, largestNumber, writeNumber, writeNumbers}
-use Rattle.number.specs.AllSmall.{allSmall}
+use Rattle.number.specs.Storable.{allStorable}
 use Rattle.number.specs.GroupsLaws.{number-most}
 
 numbers-two : (a b : List ℕ) → writeNumbers (a ++ b) ≡ writeNumbers a ++ writeNumbers b
@@ -65,32 +65,32 @@ module _ {n : ℕ} (h : n < numberLimit) where
 
 -- ---- numbers of which none is too large
 
-small-two : (a b : List ℕ) → allSmall (a ++ b) ≡ (allSmall a && allSmall b)
-unfolding allSmall
+small-two : (a b : List ℕ) → allStorable (a ++ b) ≡ (allStorable a && allStorable b)
+unfolding allStorable
 small-two [] b = refl
-small-two (n ∷ a) b = ap (λ (t : Bool). leb n largestNumber && t) (small-two a b) ∙ sym (and-assoc (leb n largestNumber) (allSmall a) (allSmall b))
+small-two (n ∷ a) b = ap (λ (t : Bool). leb n largestNumber && t) (small-two a b) ∙ sym (and-assoc (leb n largestNumber) (allStorable a) (allStorable b))
   where
     and-assoc : (s t u : Bool) → ((s && t) && u) ≡ (s && (t && u))
     and-assoc true t u = refl
     and-assoc false t u = refl
 
-small-one : (n : ℕ) → allSmall (n ∷ []) ≡ leb n largestNumber
-unfolding allSmall
+small-one : (n : ℕ) → allStorable (n ∷ []) ≡ leb n largestNumber
+unfolding allStorable
 small-one n = go (leb n largestNumber)
   where
     go : (t : Bool) → (t && true) ≡ t
     go true = refl
     go false = refl
 
-pub small-more : (ns : List ℕ) (i : ℕ) → i < length ns → allSmall (take (i + 1) ns) ≡ (allSmall (take i ns) && leb (getD ns i 0) largestNumber)
+pub small-more : (ns : List ℕ) (i : ℕ) → i < length ns → allStorable (take (i + 1) ns) ≡ (allStorable (take i ns) && leb (getD ns i 0) largestNumber)
 small-more ns i h =
-    ap (λ (k : ℕ). allSmall (take k ns)) (add-one i)
-    ∙ ap allSmall (take-suc ns i 0 h)
+    ap (λ (k : ℕ). allStorable (take k ns)) (add-one i)
+    ∙ ap allStorable (take-suc ns i 0 h)
     ∙ small-two (take i ns) (getD ns i 0 ∷ [])
-    ∙ ap (λ (t : Bool). allSmall (take i ns) && t) (small-one (getD ns i 0))
+    ∙ ap (λ (t : Bool). allStorable (take i ns) && t) (small-one (getD ns i 0))
 
-pub small-each : (ns : List ℕ) (i : ℕ) → allSmall ns ≡ true → i < length ns → getD ns i 0 < numberLimit
-unfolding allSmall
+pub small-each : (ns : List ℕ) (i : ℕ) → allStorable ns ≡ true → i < length ns → getD ns i 0 < numberLimit
+unfolding allStorable
 small-each [] i e h = absurd (omega arith)
-small-each (n ∷ ns) zero e h = omega (arith, leb-true n largestNumber (both (leb n largestNumber) (allSmall ns) .0 e .0))
-small-each (n ∷ ns) (suc i) e h = small-each ns i (both (leb n largestNumber) (allSmall ns) .0 e .1) (omega arith)
+small-each (n ∷ ns) zero e h = omega (arith, leb-true n largestNumber (both (leb n largestNumber) (allStorable ns) .0 e .0))
+small-each (n ∷ ns) (suc i) e h = small-each ns i (both (leb n largestNumber) (allStorable ns) .0 e .1) (omega arith)

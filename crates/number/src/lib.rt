@@ -8,7 +8,7 @@ ghost use mathlib.Core.Path.{_≡_};
 ghost use Prim.Native.Nat.{_+_, _<_, _≤_, min};
 ghost use lib.ListN.{length};
 ghost use Rattle.sheet.specs.Lent.{Wrote};
-ghost use Rattle.number.specs.AllSmall.{allSmall};
+ghost use Rattle.number.specs.Storable.{allStorable};
 ghost use Rattle.number.specs.Number.{group, moreGroups, numberLimit, largestNumber, writeNumber, writeNumbers, readNumber, numberOf};
 
 // A stored number and how many bytes it takes, or the number of the refusal.
@@ -84,8 +84,8 @@ pub fn read_number(bytes: &[u8]) -> Number
 }
 
 // Whether none of some numbers is too large.
-fn are_small(numbers: &[u64]) -> bool
-    ensures { λ r. ⌜ r ≡ allSmall (now (numbers .entry)) ⌝ }
+fn are_storable(numbers: &[u64]) -> bool
+    ensures { λ r. ⌜ r ≡ allStorable (now (numbers .entry)) ⌝ }
 {
     let mut small = true;
     let mut i = 0;
@@ -184,12 +184,12 @@ pub fn put_stored(numbers: &[u64], out: &mut [u8], at: usize) -> usize
     if out.len() <= at {
         return behind(at, numbers_size(numbers));
     }
-    let plain = are_small(numbers) & (numbers.len() * (Number::MORE + 1) <= out.len() - at);
+    let direct = are_storable(numbers) & (numbers.len() * (Number::MORE + 1) <= out.len() - at);
     let mut to = at;
     let mut i = 0;
     while i < numbers.len() {
         let n = numbers[i];
-        if plain {
+        if direct {
             to = write_number(n, out, to);
         } else {
             to = put_number(clip(n), out, to);

@@ -21,7 +21,7 @@ pub mod WorkedAnswers
 pub mod WorkedReach
 pub mod WorkedCircle
 -- what the code's inner functions say
-pub mod Sizes
+pub mod PointSizes
 pub mod Coefficients
 pub mod CirclePoints
 pub mod CircleForms

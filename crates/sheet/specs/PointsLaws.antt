@@ -31,7 +31,7 @@ use Rattle.whole.specs.DivisorLaws.{gcdOf-is, gcdOf-above, over-back, over-one,
 use Rattle.sheet.specs.declared.Point.{Point}
 use Rattle.sheet.specs.Points.{numbers, divisor, divided, size, standard, edge, inSquare, narrow, frame, isPoint}
 use Rattle.sheet.specs.PointFacts.{Denominator, Narrow, Standard, OnEdge, BetweenEdges, inner, on, beside, Frame, APoint, a-standard, a-frame}
-use Rattle.sheet.specs.Sizes.{Sizes}
+use Rattle.sheet.specs.PointSizes.{PointSizes}
 use Rattle.sheet.specs.Flags.{both, either, eqb-is, flags}
 use Rattle.sheet.specs.AnswersLaws.{point-one}
 
@@ -265,7 +265,7 @@ square-within {k} {m} s h = record { within = leb→le (natAbs m) k (go s h .le)
     go (on e z) h = ≤-trans (≤-of e) (w-upper h)
     go (beside e z) h = ≤-trans (≤-of e) (w-upper h)
 
-pub frame-sizes : {p : Point} → Frame p → Sizes p
+pub frame-sizes : {p : Point} → Frame p → PointSizes p
 frame-sizes f = record {
   in-mx = square-within (f .in-x) (f .slim .in-w .at-most);
   in-nx = w-lit (f .slim .in-nx) tt;
@@ -274,7 +274,7 @@ frame-sizes f = record {
   in-w = record { above = f .slim .in-w .above; at-most = w-lit (f .slim .in-w .at-most) tt };
 }
 
-pub point-sizes : {p : Point} → APoint p → Sizes p
+pub point-sizes : {p : Point} → APoint p → PointSizes p
 point-sizes (a-standard s e) = record {
   in-mx = w-is (s .no-mx) (w-lit (w-pos 0) tt);
   in-nx = s .in-nx;

@@ -37,7 +37,7 @@ use Rattle.sheet.specs.Points.{X, Y, W, isPoint, given}
 use Rattle.sheet.specs.Ends.{begins, nextSide}
 use Rattle.sheet.specs.Signs.{order, turnPoly, turn, sideOfFigure, sideSign}
 use Rattle.sheet.specs.PointFacts.{APoint}
-use Rattle.sheet.specs.Sizes.{Sizes}
+use Rattle.sheet.specs.PointSizes.{PointSizes}
 use Rattle.sheet.specs.PointsLaws.{point-is, point-sizes, in-proportion}
 use Rattle.sheet.specs.Coefficients.{orderX, orderY, det, turnA, turnB, turnC}
 use Rattle.sheet.specs.Expansions.{order-is, turn-poly-is}
@@ -98,10 +98,10 @@ order-value p q hp hq =
     ∙ sym (lead base (small cy below under small my below under small cx below under highest))
     ∙ ap sgn (digitwise base (p .mx) (p .nx) (p .my) (p .ny) (p .w) (q .mx) (q .nx) (q .my) (q .ny) (q .w))
   where
-    a : Sizes p
+    a : PointSizes p
     a = point-sizes (point-is p .0 hp)
 
-    b : Sizes q
+    b : PointSizes q
     b = point-sizes (point-is q .0 hq)
 
     below : pos 4096000000000000000 <ℤ base

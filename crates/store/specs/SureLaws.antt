@@ -66,10 +66,10 @@ pub sure-coordinate : (start : ℤ) (bs : List ℕ) → Sure (λ z. beyond z ≡
 unfolding readCoordinate
 sure-coordinate start bs = sure-next (sure-number bs) (λ n rest u. sure-checked (beyond (start +ℤ unzigzag n)) 2 _ rest refl (λ e. e))
 
-abbrev pub Within : Vec → Type 0
-Within p = (beyond (p .x) ≡ false) × (beyond (p .y) ≡ false)
+abbrev pub NotBeyond : Vec → Type 0
+NotBeyond p = (beyond (p .x) ≡ false) × (beyond (p .y) ≡ false)
 
-pub sure-point : (start : Vec) (bs : List ℕ) → Sure Within bs (readPoint start bs)
+pub sure-point : (start : Vec) (bs : List ℕ) → Sure NotBeyond bs (readPoint start bs)
 unfolding readPoint
 sure-point start bs =
     sure-next (sure-coordinate (start .x) bs)
@@ -84,7 +84,7 @@ sure-side bs =
     (λ n rest u. sure-checked (outside (pos 1) (pos 4) (pos n)) 4 _ rest refl (λ e. record { accepted = simp e }))
 
 module _ (f : Form) (kind : ℕ) (in-range : outside (pos 1) (pos 4) (pos kind) ≡ false) (other : eqb kind 4 ≡ false) where
-  sure-to : (p : Vec) (bs : List ℕ) → Within p → Sure Accepted bs (readTo f kind p bs)
+  sure-to : (p : Vec) (bs : List ℕ) → NotBeyond p → Sure Accepted bs (readTo f kind p bs)
   unfolding readTo objectRefusal pairRefusal
   sure-to p bs h =
       sure-next (sure-point (originOf f p) bs)

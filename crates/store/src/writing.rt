@@ -19,7 +19,7 @@ const PAIR: usize = 5;
 
 const SIDE: usize = 2;
 
-// What is stored for a signed number.
+// What is stored for a signed number: its double, below 0 with every bit turned over. Said of the double the compiler needs no branch.
 pub(crate) fn stored(z: i64) -> u64
     requires { ⌜ natAbs z ≤ reachSize + reachSize ⌝ }
     ensures { λ r. ⌜ r ≡ zigzag z ⌝ }
@@ -58,7 +58,7 @@ pub(crate) fn side_numbers(o: Object) -> [u64; SIDE]
     requires { ⌜ Bounded o ⌝ }
     ensures { λ r. ⌜ r ≡ sideNumbers o ⌝ }
 {
-    let kind = whole::size(o.kind);
+    let kind = o.kind as u64;
     let number = whole::size(o.px);
     [kind, number]
 }

@@ -10,7 +10,7 @@ use Rattle.sheet.specs.Lists.{listRefusal, indexRefusal}
 use Rattle.sheet.specs.ListsLaws.{listable, index-below}
 use Prim.Native.Nat.{_+_}
 use Rattle.listing.specs.Rows.{rowsWith, sharingWith}
-use Rattle.listing.specs.Pairs.{Between, Listing}
+use Rattle.listing.specs.Pairs.{Section, Listing}
 use Rattle.listing.specs.RowsLaws.{length-rows-with}
 use Rattle.listing.specs.Listing.{oneRefusal}
 use Rattle.listing.specs.ListingLaws.{listing-is, listing-refused}
@@ -22,7 +22,7 @@ use Rattle.listing.proofs.list_one.Tie as tie
 accepted : (c : tie.Else1) → oneRefusal (c .before .before .args .list .now) (c .before .before .args .i) ≡ pos 0
 accepted c = not-refused (c .before .index-refusal .ok) (c .before .index-refusal .ensures) (c .if1 .left)
 
-known : (c : tie.Else1) → let s = c .before .before in Between (s .args .list .now) (s .args .i) (s .args .i + 1)
+known : (c : tie.Else1) → let s = c .before .before in Section (s .args .list .now) (s .args .i) (s .args .i + 1)
 known c =
     let s = c .before .before in
     let l = s .args .list .now in

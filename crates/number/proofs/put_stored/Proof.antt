@@ -15,16 +15,16 @@ use Rattle.sheet.specs.Flags.{both}
 use Rattle.sheet.specs.Lent.{clipped, Wrote}
 use Rattle.sheet.specs.LentLaws.{clipped-is, wrote-past, wrote-none, wrote-two, wrote-as, wrote-length}
 use Rattle.number.specs.Number.{moreGroups, numberLimit, largestNumber, writeNumber, writeNumbers}
-use Rattle.number.specs.AllSmall.{allSmall}
+use Rattle.number.specs.Storable.{allStorable}
 use Rattle.number.specs.WrittenLaws.{numbers-more, numbers-few, numbers-most, number-kept, small-each}
 use Rattle.number.proofs.put_stored.Statement.{statement}
 use Rattle.number.proofs.put_stored.Tie as tie
 
 abbrev Inv-loop : tie.InvT-loop
-Inv-loop numbers out₀ at plain to₀ i₀ out to i = (i ≤ length numbers) × Wrote out₀ out at to (writeNumbers (take i numbers))
+Inv-loop numbers out₀ at direct to₀ i₀ out to i = (i ≤ length numbers) × Wrote out₀ out at to (writeNumbers (take i numbers))
 
 abbrev μ-loop : tie.MeasureT-loop
-μ-loop numbers out₀ at plain to₀ i₀ out to i = length numbers - i
+μ-loop numbers out₀ at direct to₀ i₀ out to i = length numbers - i
 
 returns : tie.Need-returns Inv-loop μ-loop
 returns c =
@@ -36,7 +36,7 @@ unfolding writeNumbers
 loop-holds c = (omega arith, wrote-none (omega arith) (omega arith))
 
 -- where numbers are put plainly, none is too large, and there is room for the most that they take
-module _ (numbers : List ℕ) (small : Bool) (room : ℕ) (is : small ≡ allSmall numbers) (t : (small && leb (length numbers * (moreGroups + 1)) room) ≡ true) where
+module _ (numbers : List ℕ) (small : Bool) (room : ℕ) (is : small ≡ allStorable numbers) (t : (small && leb (length numbers * (moreGroups + 1)) room) ≡ true) where
   said : (small ≡ true) × (leb (length numbers * (moreGroups + 1)) room ≡ true)
   said = both small (leb (length numbers * (moreGroups + 1)) room) .0 t
 
@@ -50,7 +50,7 @@ write-number-requires : tie.Need-write-number-requires Inv-loop μ-loop
 write-number-requires c κs =
     let s = c .before .before .before .before .before .before .before .before .before in
     let l = c .before .before .before .before .loop in
-    let a = c .before .before .before .before .before .are-small in
+    let a = c .before .before .before .before .before .are-storable in
     let numbers = s .args .numbers .now in
     let lent = length (s .args .out .now) - s .args .at in
     let front = writeNumbers (take (l .i) numbers) in
@@ -72,7 +72,7 @@ loop-again : tie.Need-loop-again Inv-loop μ-loop
 loop-again c =
     let s = c .before .before .before .before .before .before .before .before in
     let l = c .before .before .before .loop in
-    let a = c .before .before .before .before .are-small in
+    let a = c .before .before .before .before .are-storable in
     let numbers = s .args .numbers .now in
     let lent = length (s .args .out .now) - s .args .at in
     let one : Wrote (l .out) (c .if2 .out) (l .to) (c .if2 .to) (writeNumber (min (getD numbers (l .i) 0) largestNumber)) =

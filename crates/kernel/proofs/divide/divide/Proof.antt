@@ -12,7 +12,7 @@ use Rattle.whole.specs.Flat.{back, within-out}
 use Rattle.whole.specs.Within.{Within}
 use Rattle.whole.specs.Tests.{out, out-is, gave}
 use Rattle.sheet.specs.Points.{divided}
-use Rattle.kernel.specs.Bounds.{Part}
+use Rattle.kernel.specs.Bounds.{PartBounds}
 use Rattle.kernel.specs.Forms.{divisor-bounds}
 use borrow.Author.Needs.{needs}
 use Rattle.kernel.proofs.divide.divide.Statement.{statement}
@@ -27,7 +27,7 @@ found c =
     simp (c .divisor .ensures, out-is, s .fits .mx, s .fits .nx, s .fits .my, s .fits .ny, s .fits .w)
 
 -- of each of the five numbers: what `part` asks, and what it gives
-part-asks : (c : tie.After-divisor) {n : ℤ} → Within 64000000000 n → Part (out n) (c .divisor .result)
+part-asks : (c : tie.After-divisor) {n : ℤ} → Within 64000000000 n → PartBounds (out n) (c .divisor .result)
 part-asks c h =
     let b = subst (λ (g : ℕ). (0 < g) × (g ≤ 64000000000)) (sym (found c)) (divisor-bounds (c .before .pre)) in
     record { bn = within-out h tt; above = b .0; small = b .1 }

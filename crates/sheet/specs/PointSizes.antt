@@ -4,7 +4,7 @@ use Rattle.sheet.specs.declared.Point.{Point}
 use Rattle.sheet.specs.Limits.{standardWSize, standardNSize}
 use Rattle.sheet.specs.PointFacts.{Denominator}
 
-pub record Sizes (p : Point) : Type 0 where
+pub record PointSizes (p : Point) : Type 0 where
   pub in-mx : Within 4000 (p .mx)
   pub in-nx : Within standardNSize (p .nx)
   pub in-my : Within 4000 (p .my)

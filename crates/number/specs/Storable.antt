@@ -5,6 +5,6 @@ use Prim.Native.Nat.{ℕ}
 use lib.Dec.{leb}
 use Rattle.number.specs.Number.{largestNumber}
 
-unfoldable pub allSmall : List ℕ → Bool
-allSmall [] = true
-allSmall (n ∷ ns) = leb n largestNumber && allSmall ns
+unfoldable pub allStorable : List ℕ → Bool
+allStorable [] = true
+allStorable (n ∷ ns) = leb n largestNumber && allStorable ns
