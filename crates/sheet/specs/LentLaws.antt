@@ -3,7 +3,7 @@
 --   filled-front     a call that is not refused has its whole result at the front
 --   sets-two         one piece behind the other is both at once
 --   sets-front       a piece at the front: the piece, and then what stood behind it
---   sets-short       a piece is put as far as there are cells
+--   sets-past, sets-short   what has no cell is not put; a piece is put as far as there are cells
 --   clipped-is, clipped-past          a place up to the largest is answered as it is, and one past it as the largest
 --   wrote-none, wrote-one, wrote-past, wrote-two  nothing was put; one number; a piece for which there are no cells; one piece behind the other
 --   wrote-as         the piece in other words
@@ -119,7 +119,7 @@ module _ {A : Type 0} where
   set-past (x ∷ d) zero b h = absurd (omega arith)
   set-past (x ∷ d) (suc i) b h = ap (λ (l : List A). x ∷ l) (set-past d i b (omega arith))
 
-  sets-past : (d s : List A) (i : ℕ) → length d ≤ i → sets d i s ≡ d
+  pub sets-past : (d s : List A) (i : ℕ) → length d ≤ i → sets d i s ≡ d
   sets-past d [] i h = refl
   sets-past d (x ∷ s) i h = ap (λ (l : List A). sets l (suc i) s) (set-past d i x h) ∙ sets-past d s (suc i) (omega arith)
 

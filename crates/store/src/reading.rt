@@ -275,7 +275,8 @@ pub(crate) fn put_object(o: Object, out: &mut [i64], at: usize) -> usize
 }
 
 // The refusal of bytes that are to hold count objects and nothing more; 0 for none. The objects, or those before the refusal, are put at the
-// front of a list as far as it has cells: one loop for the check alone and for reading, so that an object is read in one place.
+// front of a list as far as it has cells: one loop for reading and, with a list of none, for the check alone, so that an object is read in
+// one place.
 pub(crate) fn read_objects(count: u64, bytes: &[u8], out: &mut [i64]) -> i64
     ensures refusal { λ r. ⌜ r ≡ readObjects plain count (now (bytes .entry)) .refusal ⌝ }
     ensures cells { λ r. ⌜ now (out .exit) ≡ sets (now (out .entry)) 0 (readObjects plain count (now (bytes .entry)) .objects) ⌝ }
@@ -290,7 +291,9 @@ pub(crate) fn read_objects(count: u64, bytes: &[u8], out: &mut [i64]) -> i64
             return no;
         }
         let object = part.object;
-        to = put_object(object, out, to);
+        if out.len() != 0 {
+            to = put_object(object, out, to);
+        }
         at += part.size;
         left -= 1;
     }
