@@ -27,7 +27,7 @@ fn times_sign(w: i64, z: i64) -> i64
 }
 
 // Whether an object of this kind has the place p + (h / w) d of its line: not before p but for a line, not beyond q for a segment. What a
-// segment asks is one test, since most pairs of a sheet end here, and which of its two ends was passed is as good as random.
+// segment asks is one test: most pairs of short segments end here, and at which end one was missed is hard to foresee.
 fn reaches(kind: i64, h: i64, w: i64) -> bool
     ensures { λ r. ⌜ r ≡ reachesBy kind h w ⌝ }
 {

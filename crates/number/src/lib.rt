@@ -1,4 +1,4 @@
-// Stored numbers: the number that bytes begin with, and the bytes of a number. The only place that knows groups of seven bits, on the way
+// Stored numbers: the number that bytes begin with, and the bytes of numbers. The only place that knows groups of seven bits, on the way
 // in and on the way out. The definitions are in specs/Number.antt.
 use sheet::lent::behind;
 use sheet::lent::put_byte;
@@ -37,9 +37,9 @@ fn refused(refusal: i64) -> Number
     }
 }
 
-// The number that the bytes begin with, group by group: the first, which most numbers end with, and for the others what the groups so far
-// hold and what one of the next counts. Such a group is wrong where it is 0, and the last that may come where another follows. The bracket
-// holds the type's numbers to the paper's.
+// The number that the bytes begin with, group by group: the first, which is all that kinds and small coordinates have, and for the others
+// what the groups so far hold and what one of the next counts. Such a group is wrong where it is 0, and the last that may come where another
+// follows. The bracket holds the type's numbers to the paper's.
 pub fn read_number(bytes: &[u8]) -> Number
     ensures told { λ r. ⌜ r ≡ numberOf (now (bytes .entry)) (readNumber (now (bytes .entry))) ⌝ }
     ensures small { λ r. ⌜ r .value < numberLimit ⌝ }
@@ -176,7 +176,7 @@ fn put_number(n: u64, out: &mut [u8], at: usize) -> usize
 
 // The bytes of some numbers, one behind the other, at a place of lent bytes, as far as there are cells, and the place behind them. A number
 // past the largest is put as the largest. Where there is no cell the bytes are only counted. Where no number is too large, and there are the
-// most cells that so many take, no byte's cell is looked for: so it is with nearly all that is written.
+// most cells that so many take, no byte's cell is looked for: so it is with all objects of a drawing but the last ones.
 pub fn put_stored(numbers: &[u64], out: &mut [u8], at: usize) -> usize
     ensures put { λ r. ⌜ Wrote (now (out .entry)) (now (out .exit)) at r (writeNumbers (now (numbers .entry))) ⌝ }
     ensures names { λ r. do ⌜ (← ⟦Number::LARGEST⟧ .entry) ≡ largestNumber ⌝ }

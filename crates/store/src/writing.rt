@@ -40,7 +40,7 @@ pub(crate) fn stored_from(start: i64, z: i64) -> u64
     stored(far)
 }
 
-// The numbers that are stored for an object with two points: p and q are counted from the same start.
+// The numbers that are stored for an object with two points. In this form q is counted from 0, as p is.
 pub(crate) fn pair_numbers(o: Object) -> [u64; PAIR]
     requires { ⌜ Bounded o ⌝ }
     ensures { λ r. ⌜ r ≡ pairNumbers plain o ⌝ }
