@@ -162,16 +162,16 @@ fn put_number(n: u64, out: &mut [u8], at: usize) -> usize
     requires { ⌜ n < numberLimit ⌝ }
     ensures { λ r. ⌜ Wrote (now (out .entry)) (now (out .exit)) at r (writeNumber n) ⌝ }
 {
-    let mut left = n;
+    let mut rest = n;
     let mut to = at;
     let mut i = 0;
-    while (i < Number::MORE) & (Number::GROUP <= left) {
-        let low = Number::GROUP + left % Number::GROUP;
+    while (i < Number::MORE) & (Number::GROUP <= rest) {
+        let low = Number::GROUP + rest % Number::GROUP;
         to = put_byte(low as u8, out, to);
-        left /= Number::GROUP;
+        rest /= Number::GROUP;
         i += 1;
     }
-    put_byte(left as u8, out, to)
+    put_byte(rest as u8, out, to)
 }
 
 // The bytes of some numbers, one behind the other, at a place of lent bytes, as far as there are cells, and the place behind them. A number

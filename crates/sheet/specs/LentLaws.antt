@@ -6,7 +6,7 @@
 --   sets-past, sets-short   what has no cell is not put; a piece is put as far as there are cells
 --   clipped-is, clipped-past          a place up to the largest is answered as it is, and one past it as the largest
 --   wrote-none, wrote-one, wrote-past, wrote-two  nothing was put; one number; a piece for which there are no cells; one piece behind the other
---   wrote-as         the piece in other words
+--   wrote-named, wrote-as   the cells and the place under other names; the piece in other words
 --   wrote-length     as many cells as before
 --   wrote-size, wrote-short, wrote-room   a piece that was put at the front tells its length, and whether other cells have room for it
 --   wrote-front      what stands there when a piece that fits was put at the front
@@ -165,6 +165,9 @@ module _ {A : Type 0} where
           place = v .place ∙ ap (λ (k : ℕ). clipped (k + length b′)) (w .place) ∙ clipped-more (at + length b) (length b′) ∙ ap clipped long;
           lent = w .lent;
         }
+
+    pub wrote-named : {out : List A} {to : ℕ} → out ≡ d′ → to ≡ next → Wrote d out at to b
+    wrote-named e f = record { cells = e ∙ w .cells; place = f ∙ w .place; lent = w .lent }
 
     pub wrote-as : {b′ : List A} → b ≡ b′ → Wrote d d′ at next b′
     wrote-as e = subst (Wrote d d′ at next) e w

@@ -9,17 +9,14 @@ use Rattle.sheet.specs.Limits.{reachSize}
 use Rattle.number.specs.Number.{zigzag}
 use Rattle.store.specs.Stored.{Form}
 
--- coordinates within the limits
-pub record Reachable (x y u v : ℤ) : Type 0 where
-  pub px : natAbs x ≤ reachSize
-  pub py : natAbs y ≤ reachSize
-  pub qx : natAbs u ≤ reachSize
-  pub qy : natAbs v ≤ reachSize
-
+-- a kind of 0 or more, and every number within the limits of coordinates
 pub record Bounded (o : Object) : Type 0 where
   pub above : T (nonNeg (o .kind))
   pub kind : natAbs (o .kind) ≤ reachSize
-  pub rest : Reachable (o .px) (o .py) (o .qx) (o .qy)
+  pub px : natAbs (o .px) ≤ reachSize
+  pub py : natAbs (o .py) ≤ reachSize
+  pub qx : natAbs (o .qx) ≤ reachSize
+  pub qy : natAbs (o .qy) ≤ reachSize
 
 -- the numbers that a form stores for an object with two points, and for a side
 abbrev pub pairNumbers : Form → Object → List ℕ

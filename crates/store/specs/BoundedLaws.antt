@@ -43,12 +43,10 @@ accepted-bounded o e = go (accepted-taken (record { accepted = e }))
         record {
           above = is-above n k;
           kind = is-small n k h;
-          rest = record {
-            px = p .small-p .in-x .within;
-            py = p .small-p .in-y .within;
-            qx = p .small-q .in-x .within;
-            qy = p .small-q .in-y .within;
-          };
+          px = p .small-p .in-x .within;
+          py = p .small-p .in-y .within;
+          qx = p .small-q .in-x .within;
+          qy = p .small-q .in-y .within;
         }
 
     go : Taken o → Bounded o
@@ -59,12 +57,10 @@ accepted-bounded o e = go (accepted-taken (record { accepted = e }))
         record {
           above = is-above 4 k;
           kind = is-small 4 k (omega arith);
-          rest = record {
-            px = subst (λ (x : ℤ). natAbs x ≤ reachSize) (sym (s .number)) (side-small (s .which));
-            py = is-small 0 (s .rest .0) (omega arith);
-            qx = is-small 0 (s .rest .1) (omega arith);
-            qy = is-small 0 (s .rest .2) (omega arith);
-          };
+          px = subst (λ (x : ℤ). natAbs x ≤ reachSize) (sym (s .number)) (side-small (s .which));
+          py = is-small 0 (s .rest .0) (omega arith);
+          qx = is-small 0 (s .rest .1) (omega arith);
+          qy = is-small 0 (s .rest .2) (omega arith);
         }
 
 -- ---- the numbers of an object, written
@@ -81,7 +77,7 @@ module _ (o : Object) (b : Bounded o) where
   unfolding writeObject writeShape
   side-written f e =
       let rest : writeNumbers (natAbs (o .px) ∷ []) ≡ writeShape f (o .kind) (o .px) (o .py) (o .qx) (o .qy) =
-      number-alone (omega (arith, b .rest .px)) ∙ sym (simp (eq-eqZ e)) in
+      number-alone (omega (arith, b .px)) ∙ sym (simp (eq-eqZ e)) in
       number-first (omega (arith, b .kind)) _ ∙ ap (λ (l : List ℕ). writeNumber (natAbs (o .kind)) ++ l) rest
 
   -- where q is counted from is within the limits too
@@ -94,11 +90,11 @@ module _ (o : Object) (b : Bounded o) where
       let py = writeCoordinate (pos 0) (o .py) in
       let qx = writeCoordinate (f .origin (o .px)) (o .qx) in
       let q : writeNumbers (zigzag (o .qx -ℤ f .origin (o .px)) ∷ zigzag (o .qy -ℤ f .origin (o .py)) ∷ []) ≡ writePoint (originOf f (vec (o .px) (o .py))) (vec (o .qx) (o .qy)) =
-      number-first (far-small (f .origin (o .px)) (o .qx) hx (b .rest .qx)) _ ∙ ap (λ (l : List ℕ). qx ++ l) (number-alone (far-small (f .origin (o .py)) (o .qy) hy (b .rest .qy))) in
+      number-first (far-small (f .origin (o .px)) (o .qx) hx (b .qx)) _ ∙ ap (λ (l : List ℕ). qx ++ l) (number-alone (far-small (f .origin (o .py)) (o .qy) hy (b .qy))) in
       let shape : writeShape f (o .kind) (o .px) (o .py) (o .qx) (o .qy) ≡ writePair f (vec (o .px) (o .py)) (vec (o .qx) (o .qy)) = simp (ne-eqZ e) in
       let rest =
-      number-first (far-small (pos 0) (o .px) (omega arith) (b .rest .px)) _
-      ∙ ap (λ (l : List ℕ). px ++ l) (number-first (far-small (pos 0) (o .py) (omega arith) (b .rest .py)) _)
+      number-first (far-small (pos 0) (o .px) (omega arith) (b .px)) _
+      ∙ ap (λ (l : List ℕ). px ++ l) (number-first (far-small (pos 0) (o .py) (omega arith) (b .py)) _)
       ∙ sym (append-assoc px py _)
       ∙ ap (λ (l : List ℕ). (px ++ py) ++ l) q
       ∙ sym shape in

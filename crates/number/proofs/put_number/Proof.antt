@@ -10,10 +10,10 @@ use Rattle.number.proofs.put_number.Statement.{statement}
 use Rattle.number.proofs.put_number.Tie as tie
 
 abbrev Inv-loop : tie.InvT-loop
-Inv-loop n out₀ at left₀ to₀ i₀ out left to i = Written out₀ out at n to left (moreGroups - i)
+Inv-loop n out₀ at rest₀ to₀ i₀ out rest to i = Written out₀ out at n to rest (moreGroups - i)
 
 abbrev μ-loop : tie.MeasureT-loop
-μ-loop n out₀ at left₀ to₀ i₀ out left to i = moreGroups - i
+μ-loop n out₀ at rest₀ to₀ i₀ out rest to i = moreGroups - i
 
 loop-holds : tie.Need-loop-holds Inv-loop μ-loop
 loop-holds c = written-start (omega arith) (omega arith) (c .before .pre)
@@ -21,12 +21,12 @@ loop-holds c = written-start (omega arith) (omega arith) (c .before .pre)
 add-i : tie.Need-add-i Inv-loop μ-loop
 add-i c =
     let l = c .before .before .before .before .before .loop in
-    omega (arith, goes-on (l .i) (l .left) (c .before .before .before .before .loop-test .taken))
+    omega (arith, goes-on (l .i) (l .rest) (c .before .before .before .before .loop-test .taken))
 
 loop-less : tie.Need-loop-less Inv-loop μ-loop
 loop-less c =
     let l = c .before .before .before .before .before .loop in
-    omega (arith, goes-on (l .i) (l .left) (c .before .before .before .before .loop-test .taken))
+    omega (arith, goes-on (l .i) (l .rest) (c .before .before .before .before .loop-test .taken))
 
 loop-again : tie.Need-loop-again Inv-loop μ-loop
 loop-again c =

@@ -13,7 +13,7 @@ use lib.ListN.{length, getD, take, length-append}
 use lib.Seq.{take-all}
 use Rattle.sheet.specs.Flags.{both}
 use Rattle.sheet.specs.Lent.{clipped, Wrote}
-use Rattle.sheet.specs.LentLaws.{clipped-is, wrote-past, wrote-none, wrote-two, wrote-as, wrote-length}
+use Rattle.sheet.specs.LentLaws.{clipped-is, wrote-past, wrote-none, wrote-two, wrote-named, wrote-as, wrote-length}
 use Rattle.number.specs.Number.{moreGroups, numberLimit, largestNumber, writeNumber, writeNumbers}
 use Rattle.number.specs.Storable.{allStorable}
 use Rattle.number.specs.WrittenLaws.{numbers-more, numbers-few, numbers-most, number-kept, small-each}
@@ -64,10 +64,6 @@ write-number-requires c κs =
 put-number-requires : tie.Need-put-number-requires Inv-loop μ-loop
 put-number-requires c κs = omega (arith, c .before .clip .ensures)
 
--- what a call put, with its answers under other names
-named : {d d′ out b : List ℕ} {at next to : ℕ} → Wrote d d′ at next b → out ≡ d′ → to ≡ next → Wrote d out at to b
-named w e f = record { cells = e ∙ w .cells; place = f ∙ w .place; lent = w .lent }
-
 loop-again : tie.Need-loop-again Inv-loop μ-loop
 loop-again c =
     let s = c .before .before .before .before .before .before .before .before in
@@ -79,8 +75,8 @@ loop-again c =
     ⊎-elim
     (λ w.
     let small = each numbers (a .result) lent (a .ensures) (w .0 .taken) (l .i) (omega arith) in
-    wrote-as (named (w .2 .ensures) (w .5) (w .6)) (ap writeNumber (sym (number-kept small))))
-    (λ w. wrote-as (named (w .3 .ensures) (w .6) (w .7)) (ap writeNumber (w .1 .ensures)))
+    wrote-as (wrote-named (w .2 .ensures) (w .5) (w .6)) (ap writeNumber (sym (number-kept small))))
+    (λ w. wrote-as (wrote-named (w .3 .ensures) (w .6) (w .7)) (ap writeNumber (w .1 .ensures)))
     (c .if2 .came) in
     (omega arith, wrote-as (wrote-two (l .inv .1) one) (sym (numbers-more numbers (l .i) (omega arith))))
 

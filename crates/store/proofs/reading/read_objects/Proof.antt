@@ -13,7 +13,7 @@ use Rattle.sheet.specs.AnswersLaws.{not-refused}
 use Rattle.sheet.specs.declared.Object.{Object}
 use Rattle.sheet.specs.Answers.{objectNumbers}
 use Rattle.sheet.specs.Lent.{Wrote}
-use Rattle.sheet.specs.LentLaws.{sets-past, wrote-none, wrote-two}
+use Rattle.sheet.specs.LentLaws.{sets-past, wrote-none, wrote-two, wrote-named}
 use Rattle.number.specs.ReadAs.{ReadAs}
 use Rattle.number.specs.ReadAsLaws.{reads-rest}
 use Rattle.store.specs.Stored.{plain, Drawing, refused, readObject, readObjects}
@@ -111,11 +111,7 @@ add-at c =
 
 -- the same under other names
 named : {d out out′ front : List ℤ} {to to′ : ℕ} → Put d out to front → out′ ≡ out → to′ ≡ to → Put d out′ to′ front
-named p e f =
-    record {
-      cells = e ∙ p .cells;
-      there = λ h. let w = p .there h in record { cells = e ∙ w .cells; place = f ∙ w .place; lent = w .lent };
-    }
+named p e f = record { cells = e ∙ p .cells; there = λ h. wrote-named (p .there h) e f }
 
 loop-again : tie.Need-loop-again Inv-loop μ-loop
 loop-again c =
