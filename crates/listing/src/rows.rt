@@ -11,18 +11,16 @@ ghost use Rattle.sheet.specs.Limits.{most};
 ghost use Rattle.sheet.specs.Refusal.{Accepted};
 ghost use Rattle.sheet.specs.Crossing.{crossingOf};
 ghost use Rattle.sheet.specs.Lent.{Wrote};
-ghost use Rattle.sheet.specs.Lists.{countOf, objectAt};
-ghost use Rattle.sheet.specs.Listable.{Listable};
+ghost use Rattle.sheet.specs.Lists.{objectAt};
 ghost use Rattle.sheet.specs.Meetings.{meetingBy};
 ghost use Rattle.listing.specs.Rows.{rowOf};
 ghost use Rattle.listing.specs.Pairs.{Pair};
 
-// What an object shares with object j.
-fn meet(a: Object, list: &[i64], j: usize) -> Crossing
-    requires { ⌜ Accepted a × (Listable (now list) × (j < countOf (now list))) ⌝ }
-    ensures { λ r. ⌜ meetingBy r ≡ crossingOf a (objectAt (now (list .entry)) j) ⌝ }
+// What two accepted objects share.
+fn meet(a: Object, b: Object) -> Crossing
+    requires { ⌜ Accepted a × Accepted b ⌝ }
+    ensures { λ r. ⌜ meetingBy r ≡ crossingOf a b ⌝ }
 {
-    let b = object_at(list, j);
     kernel::crossing::cross(a, b)
 }
 
@@ -61,7 +59,8 @@ pub(crate) fn put_row(
     requires { ⌜ Pair (now list) i j × (a ≡ objectAt (now list) i) ⌝ }
     ensures { λ r. ⌜ Wrote (now (out .entry)) (now (out .exit)) at r (rowOf (now (list .entry)) i j) ⌝ }
 {
-    match meet(a, list, j) {
+    let b = object_at(list, j);
+    match meet(a, b) {
         Crossing::Once(p) => {
             return write_row(out, at, i, j, 1, p.mx, p.nx, p.my, p.ny, p.w);
         }

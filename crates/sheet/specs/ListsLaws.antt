@@ -4,11 +4,12 @@
 --   one-accepted, one-refused       one more object in turn
 --   listable, is-listable           what a list that is not refused has, and only such a list: no number over, few objects, each accepted
 --   object-drop, object-next        the objects of the rest of a list;  object-past   past its end
+--   numbers-first                   a list that has an object is its first one's numbers and the rest
 --   index-below                     an index that is not refused is below the count
 -- Assumes nothing.
 use mathlib.Core.Path.{_≡_, refl, sym, ap, _∙_}
 use mathlib.Core.Bool.{Bool, true, false, cond}
-use mathlib.Core.List.{List}
+use mathlib.Core.List.{List, [], _∷_, _++_}
 use Prim.Native.Nat.{ℕ, zero, suc, _+_, _*_, _%_, _≤_, _<_}
 use native.Mathlib.Numerals.{add-one}
 use native.Mathlib.Decide.{le-ind}
@@ -26,6 +27,7 @@ use Rattle.whole.specs.Choice.{orElse}
 use Rattle.whole.specs.ChoiceLaws.{or-zero}
 use Rattle.sheet.specs.Lists.{width, countOf, objectFrom, objectAt, firstRefusal, objectsRefusal, listRefusal, indexRefusal}
 use Rattle.sheet.specs.Listable.{Listable}
+use Rattle.sheet.specs.Answers.{objectNumbers}
 
 -- ---- in turn
 
@@ -116,6 +118,14 @@ object-past l {at} {at′} h h′ =
 
 pub object-next : (l : List ℤ) (i : ℕ) → objectAt (drop width l) i ≡ objectAt l (suc i)
 object-next l i = let e : width + i * width ≡ suc i * width = omega arith in object-drop l width (i * width) ∙ ap (objectFrom l) e
+
+pub numbers-first : (l : List ℤ) → width ≤ length l → objectNumbers (objectAt l 0) ++ drop width l ≡ l
+numbers-first [] h = absurd (omega arith)
+numbers-first (a ∷ []) h = absurd (omega arith)
+numbers-first (a ∷ b ∷ []) h = absurd (omega arith)
+numbers-first (a ∷ b ∷ c ∷ []) h = absurd (omega arith)
+numbers-first (a ∷ b ∷ c ∷ d ∷ []) h = absurd (omega arith)
+numbers-first (a ∷ b ∷ c ∷ d ∷ e ∷ l) h = refl
 
 -- ---- indices
 

@@ -13,10 +13,10 @@ use contract.Lifetimes.{Lfts}
 use denote.Ref.{RefT}
 use Rattle.sheet.specs.Lent.{roomRefusal, otherNumber, lengthGiven, filled}
 use Rattle.sheet.specs.LentLaws.{filled-front}
-use Rattle.sheet.specs.Lists.{countOf, listRefusal}
+use Rattle.sheet.specs.Lists.{countOf}
 use Rattle.store.specs.declared.Read.{Read}
 use Rattle.store.specs.declared.Written.{Written}
-use Rattle.store.specs.Stored.{Drawing, readDrawing, writeDrawing}
+use Rattle.store.specs.Stored.{Drawing, readDrawing, writeDrawing, writeRefusal}
 use Rattle.store.specs.Answers.{readAnswer, readInto, writeAnswer, writeInto}
 use Rattle.number.specs.Number.{Bytes}
 use Rattle.store.specs.StoredLaws.{written-read, read-written}
@@ -56,10 +56,10 @@ was-read {bytes} {list} c =
     (done .0, c .front ∙ (λ i. take (c .met .0 i .length) (c .met .1 i)) ∙ done .1)
 
 was-written : {list : RefT (List ℤ)} {bytes : List ℕ} → WasWritten list bytes
-    → (listRefusal (list .now) ≡ pos 0) × (bytes ≡ writeDrawing (list .now))
+    → (writeRefusal (list .now) ≡ pos 0) × (bytes ≡ writeDrawing (list .now))
 unfolding writeAnswer writeInto
 was-written {list} {bytes} c =
-    let n = listRefusal (list .now) in
+    let n = writeRefusal (list .now) in
     let done = filled-front n (writeDrawing (list .now)) (c .lent .now) (sym (ap (λ (r : Written). r .refusal) (c .met .0)) ∙ c .not-refused) in
     (done .0, c .front ∙ (λ i. take (c .met .0 i .length) (c .met .1 i)) ∙ done .1)
 
@@ -74,7 +74,7 @@ unfolding writeAnswer writeInto
 bytes-come-back bytes list b c κs lent after answer met =
     let was = was-read c in
     let again = written-read (bytes .now) b (was .0) in
-    let fine : listRefusal (list .now) ≡ pos 0 = ap listRefusal (was .1) ∙ again .accepted in
+    let fine : writeRefusal (list .now) ≡ pos 0 = ap writeRefusal (was .1) ∙ again .accepted in
     let back : writeDrawing (list .now) ≡ bytes .now = ap writeDrawing (was .1) ∙ again .again in (
       met .0 ∙ (λ i. record {
         refusal = roomRefusal (fine i) (length (back i)) (length (lent .now));

@@ -4,10 +4,10 @@ use Prim.Native.Nat.{ℕ}
 use lib.IntN.{ℤ}
 use lib.ListN.{length}
 use Rattle.sheet.specs.Lent.{roomRefusal, otherNumber, lengthGiven, filled}
-use Rattle.sheet.specs.Lists.{countOf, listRefusal}
+use Rattle.sheet.specs.Lists.{countOf}
 use Rattle.store.specs.declared.Read.{Read}
 use Rattle.store.specs.declared.Written.{Written}
-use Rattle.store.specs.Stored.{Drawing, writeDrawing}
+use Rattle.store.specs.Stored.{Drawing, writeDrawing, writeRefusal}
 
 unfoldable pub readAnswer : Drawing → List ℤ → Read
 readAnswer d lent =
@@ -24,9 +24,9 @@ readInto d lent = filled (d .refusal) (d .objects) lent
 unfoldable pub writeAnswer : List ℤ → List ℕ → Written
 writeAnswer list lent =
     record {
-      refusal = roomRefusal (listRefusal list) (length (writeDrawing list)) (length lent);
-      length = lengthGiven (listRefusal list) (length (writeDrawing list));
+      refusal = roomRefusal (writeRefusal list) (length (writeDrawing list)) (length lent);
+      length = lengthGiven (writeRefusal list) (length (writeDrawing list));
     }
 
 unfoldable pub writeInto : List ℤ → List ℕ → List ℕ
-writeInto list lent = filled (listRefusal list) (writeDrawing list) lent
+writeInto list lent = filled (writeRefusal list) (writeDrawing list) lent

@@ -8,10 +8,10 @@ use Prim.Native.Nat.{ℕ}
 use lib.IntN.{ℤ}
 use lib.ListN.{length}
 use Rattle.sheet.specs.LentLaws.{End}
-use Rattle.sheet.specs.Lists.{countOf, listRefusal}
+use Rattle.sheet.specs.Lists.{countOf}
 use Rattle.store.specs.declared.Read.{Read}
 use Rattle.store.specs.declared.Written.{Written}
-use Rattle.store.specs.Stored.{Drawing, writeDrawing}
+use Rattle.store.specs.Stored.{Drawing, writeDrawing, writeRefusal}
 use Rattle.store.specs.Answers.{readAnswer, readInto, writeAnswer, writeInto}
 
 abbrev readOf : ℤ → ℕ → ℕ → Read
@@ -29,7 +29,7 @@ read-ends d lent e = (λ i. readOf (e .refusal i) (e .other i) (e .given i), e .
 
 pub write-ends :
     (list : List ℤ) (lent : List ℕ) {r : ℤ} {l o : ℕ} {after : List ℕ}
-    → End (listRefusal list) (writeDrawing list) lent (length (writeDrawing list)) 0 r l o after
+    → End (writeRefusal list) (writeDrawing list) lent (length (writeDrawing list)) 0 r l o after
     → (writtenOf r l ≡ writeAnswer list lent) × (after ≡ writeInto list lent)
 unfolding writeAnswer writeInto
 write-ends list lent e = (λ i. writtenOf (e .refusal i) (e .given i), e .cells)

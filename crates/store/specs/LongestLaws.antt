@@ -21,12 +21,12 @@ use Rattle.sheet.specs.declared.Object.{Object}
 use Rattle.sheet.specs.Figure.{vec, Vec}
 use Rattle.sheet.specs.Limits.{most}
 use Rattle.sheet.specs.Refusal.{outside, beyond, equal, pairRefusal, objectRefusal, Accepted}
-use Rattle.sheet.specs.Lists.{width, countOf, objectAt, listRefusal}
+use Rattle.sheet.specs.Lists.{width, countOf, objectAt}
 use Rattle.sheet.specs.ListsLaws.{is-listable, object-next}
 use Rattle.number.specs.Number.{limit, writeGroups, zigzag, Reading, got, no, next, checked, unzigzag}
 use Rattle.number.specs.ZigzagLaws.{zigzag-unzigzag}
 use Rattle.number.specs.SameLaws.{Same, on, off, same-next, same-checked, same-cond, same-weak, same-take}
-use Rattle.store.specs.Stored.{Form, plain, Drawing, nought, originOf, longest, andThen, counted, before, writeDrawing, readCoordinate, sideObject, readSide, readPoint, readTo, readPair, readShape, readObject, readObjects, readCount, readDrawing, writeShape, writeObject, writeObjects}
+use Rattle.store.specs.Stored.{Form, plain, Drawing, nought, originOf, longest, andThen, counted, before, writeDrawing, writeRefusal, readCoordinate, sideObject, readSide, readPoint, readTo, readPair, readShape, readObject, readObjects, readCount, readDrawing, writeShape, writeObject, writeObjects}
 use Rattle.store.specs.SureLaws.{Sure, not-nought, sure-point, sure-object, sure-count}
 use Rattle.store.specs.SureLaws as sure
 use Rattle.store.specs.ListLaws.{objects-first}
@@ -177,7 +177,7 @@ beginning-decides bs = go (ltb longest (length bs)) (ltb-true longest (length bs
         ∙ drawing-longer (take (longest + 1) bs) (drop (longest + 1) bs) (omega (arith, length-take-le (longest + 1) bs (omega arith))) .1)
     go false y m = let h = m refl in ap readDrawing (take-all (longest + 1) bs (omega arith))
 
-pub write-no-longer : (l : List ℤ) → listRefusal l ≡ pos 0 → length (writeDrawing l) ≤ longest
+pub write-no-longer : (l : List ℤ) → writeRefusal l ≡ pos 0 → length (writeDrawing l) ≤ longest
 write-no-longer l e = no-longer (writeDrawing l) (ap (λ (d : Drawing). d .refusal) (read-written l e))
 
 -- ---- the largest length is reached
@@ -203,7 +203,7 @@ unfolding longSegments inTurn writeObject writeShape writeGroups
 segments-long zero = refl
 segments-long (suc n) = omega (arith, segments-long n, ap length (objects-first plain n (longSegments (suc n))))
 
-pub longest-reached : (listRefusal (longSegments most) ≡ pos 0) × (length (writeDrawing (longSegments most)) ≡ longest)
+pub longest-reached : (writeRefusal (longSegments most) ≡ pos 0) × (length (writeDrawing (longSegments most)) ≡ longest)
 unfolding writeDrawing writeGroups
 longest-reached =
     let many = segments-many most in

@@ -13,7 +13,7 @@ use Rattle.sheet.specs.Figure.{Vec, vec}
 use Rattle.sheet.specs.Limits.{most}
 use Rattle.sheet.specs.Refusal.{outside, beyond, equal}
 use Rattle.sheet.specs.Answers.{objectNumbers}
-use Rattle.sheet.specs.Lists.{countOf, objectAt}
+use Rattle.sheet.specs.Lists.{countOf, objectAt, listRefusal}
 use Rattle.number.specs.Number.{writeNumber, zigzag, Reading, got, no, next, checked, readNumber, unzigzag}
 
 -- the largest length of a stored drawing: the count in two bytes, and 512 objects, each with its kind in one and four coordinates in two
@@ -64,15 +64,23 @@ writeObjects f n l = allOf (λ i. writeObject f (objectAt l i)) n
 unfoldable pub writeDrawing : List ℤ → List ℕ
 writeDrawing l = writeNumber (countOf l) ++ writeObjects plain (countOf l) l
 
+-- what a list that is to be written is refused by, before 10
+abbrev pub writeRefusal : List ℤ → ℤ
+writeRefusal l = listRefusal l
+
 -- ---- reading
 
 -- "2: a coordinate beyond 2,000 either way"
 unfoldable pub readCoordinate : ℤ → List ℕ → Reading ℤ
 readCoordinate start bs = next (readNumber bs) (λ n rest. checked (beyond (start +ℤ unzigzag n)) (pos 2) (start +ℤ unzigzag n) rest)
 
+-- an object by what is stored of it
+abbrev pub objectOf : ℤ → ℤ → ℤ → ℤ → ℤ → Object
+objectOf kind px py qx qy = record { kind = kind; px = px; py = py; qx = qx; qy = qy }
+
 -- "Kind 4, a whole frame side. px is its number .. The other three numbers are 0."
 abbrev pub sideObject : ℤ → Object
-sideObject n = record { kind = pos 4; px = n; py = pos 0; qx = pos 0; qy = pos 0 }
+sideObject n = objectOf (pos 4) n (pos 0) (pos 0) (pos 0)
 
 -- "4: side number not 1 to 4"
 unfoldable pub readSide : List ℕ → Reading Object
@@ -89,7 +97,7 @@ unfoldable pub readTo : Form → ℕ → Vec → List ℕ → Reading Object
 readTo f kind p bs =
     next (readPoint (originOf f p) bs)
     (λ q rest. checked (equal (p .x) (p .y) (q .x) (q .y)) (pos 3)
-    (record { kind = pos kind; px = p .x; py = p .y; qx = q .x; qy = q .y }) rest)
+    (objectOf (pos kind) (p .x) (p .y) (q .x) (q .y)) rest)
 
 unfoldable pub readPair : Form → ℕ → List ℕ → Reading Object
 readPair f kind bs = next (readPoint nought bs) (λ p rest. readTo f kind p rest)

@@ -11,17 +11,17 @@ use native.Mathlib.Omega.{arith}
 use borrow.Author.Tests.{le-ltb}
 use lib.Dec.{ltb}
 use lib.IntN.{ℤ, pos}
-use lib.ListN.{length}
+use lib.ListN.{length, drop, length-drop}
 use Rattle.whole.specs.InTurn.{inTurn}
 use Rattle.whole.specs.Tests.{eqZ-false}
 use Rattle.sheet.specs.declared.Object.{Object}
 use Rattle.sheet.specs.Limits.{most}
 use Rattle.sheet.specs.Refusal.{Accepted}
 use Rattle.sheet.specs.Answers.{objectNumbers}
-use Rattle.sheet.specs.Lists.{width, countOf, objectAt, listRefusal}
-use Rattle.sheet.specs.ListsLaws.{listable, is-listable, object-next}
+use Rattle.sheet.specs.Lists.{width, countOf, objectAt}
+use Rattle.sheet.specs.ListsLaws.{listable, is-listable, object-next, numbers-first}
 use Rattle.number.specs.Number.{Reading, next, checked, writeNumber, Bytes}
-use Rattle.store.specs.Stored.{Form, plain, Drawing, refused, before, andThen, counted, writeObject, writeObjects, writeDrawing, readObject, readObjects, readCount, readDrawing}
+use Rattle.store.specs.Stored.{Form, plain, Drawing, refused, before, andThen, counted, writeObject, writeObjects, writeDrawing, writeRefusal, readObject, readObjects, readCount, readDrawing}
 use Rattle.store.specs.SureLaws.{Sure, not-nought, sure-object, sure-count}
 use Rattle.store.specs.SureLaws as sure
 use Rattle.store.specs.ObjectsLaws.{objects-length}
@@ -43,19 +43,16 @@ objects-back : {f : Form} → Sound f → (n : ℕ) (l : List ℤ) → length l 
 unfolding readObjects inTurn
 objects-back sound zero [] e h = refl
 objects-back sound zero (a ∷ l) e h = absurd (omega arith)
-objects-back sound (suc n) [] e h = absurd (omega arith)
-objects-back sound (suc n) (a ∷ []) e h = absurd (omega arith)
-objects-back sound (suc n) (a ∷ b ∷ []) e h = absurd (omega arith)
-objects-back sound (suc n) (a ∷ b ∷ c ∷ []) e h = absurd (omega arith)
-objects-back sound (suc n) (a ∷ b ∷ c ∷ d ∷ []) e h = absurd (omega arith)
-objects-back {f} sound (suc n) (a ∷ b ∷ c ∷ d ∷ g ∷ l) e h =
-    let o : Object = record { kind = a; px = b; py = c; qx = d; qy = g } in
-    let behind : Each n l = λ i k. subst Accepted (sym (object-next (a ∷ b ∷ c ∷ d ∷ g ∷ l) i)) (h (suc i) (omega arith)) in
-    ap (λ (bs : List ℕ). andThen (readObject f bs) (λ rest. readObjects f n rest)) (objects-first f n (a ∷ b ∷ c ∷ d ∷ g ∷ l))
-    ∙ ap (λ (r : Reading Object). andThen r (λ rest. readObjects f n rest)) (object-back sound o (writeObjects f n l) (h 0 (omega arith) .accepted))
-    ∙ ap (before o) (objects-back sound n l (omega arith) behind)
+objects-back {f} sound (suc n) l e h =
+    let o = objectAt l 0 in
+    let rest = drop width l in
+    let behind : Each n rest = λ i k. subst Accepted (sym (object-next l i)) (h (suc i) (omega arith)) in
+    ap (λ (bs : List ℕ). andThen (readObject f bs) (λ rest. readObjects f n rest)) (objects-first f n l)
+    ∙ ap (λ (r : Reading Object). andThen r (λ rest. readObjects f n rest)) (object-back sound o (writeObjects f n rest) (h 0 (omega arith) .accepted))
+    ∙ ap (before o) (objects-back sound n rest (omega (arith, length-drop width l)) behind)
+    ∙ ap taken (numbers-first l (omega arith))
 
-pub read-written : (l : List ℤ) → listRefusal l ≡ pos 0 → readDrawing (writeDrawing l) ≡ taken l
+pub read-written : (l : List ℤ) → writeRefusal l ≡ pos 0 → readDrawing (writeDrawing l) ≡ taken l
 unfolding readDrawing readCount writeDrawing
 read-written l h =
     let f = listable l h in
@@ -99,7 +96,7 @@ count-from bs h = go (number-from bs h)
 
 pub record Again (bs : List ℕ) (d : Drawing) : Type 0 where
   pub again : writeDrawing (d .objects) ≡ bs
-  pub accepted : listRefusal (d .objects) ≡ pos 0
+  pub accepted : writeRefusal (d .objects) ≡ pos 0
 
 pub written-read : (bs : List ℕ) → Bytes bs → readDrawing bs .refusal ≡ pos 0 → Again bs (readDrawing bs)
 unfolding readDrawing writeDrawing

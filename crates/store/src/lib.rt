@@ -3,10 +3,10 @@ use reading::read_count;
 use reading::read_object;
 use reading::read_objects;
 use sheet::Object;
-use sheet::lists::list_refusal;
 use sheet::refusal::BYTES_AFTER;
 use sheet::refusal::NO_ROOM;
 use writing::write_all;
+use writing::write_refusal;
 ghost use mathlib.Core.Path.{_≡_};
 ghost use Prim.Native.Nat.{min};
 ghost use Rattle.store.specs.Stored.{readDrawing};
@@ -93,7 +93,7 @@ pub fn write_drawing(list: &[i64], out: &mut [u8]) -> Written
     ensures answer { λ r. ⌜ r ≡ writeAnswer (now (list .entry)) (now (out .entry)) ⌝ }
     ensures cells { λ r. ⌜ now (out .exit) ≡ writeInto (now (list .entry)) (now (out .entry)) ⌝ }
 {
-    let refusal = list_refusal(list);
+    let refusal = write_refusal(list);
     if refusal != 0 {
         return Written { refusal, length: 0 };
     }

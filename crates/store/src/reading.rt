@@ -21,7 +21,7 @@ ghost use Rattle.sheet.specs.Lent.{Wrote};
 ghost use Rattle.sheet.specs.Limits.{reachSize, most};
 ghost use Rattle.number.specs.Number.{numberLimit, unzigzag};
 ghost use Rattle.number.specs.ReadAs.{ReadAs};
-ghost use Rattle.store.specs.Stored.{plain, readCoordinate, readPoint, readSide, readTo, readPair, readShape, readObject, readCount, readObjects};
+ghost use Rattle.store.specs.Stored.{plain, objectOf, readCoordinate, readPoint, readSide, readTo, readPair, readShape, readObject, readCount, readObjects};
 
 pub(crate) struct Coordinate {
     pub refusal: i64,
@@ -43,18 +43,25 @@ pub(crate) struct Part {
     pub size: usize,
 }
 
+// An object by what is stored of it.
+pub(crate) fn object_of(kind: i64, px: i64, py: i64, qx: i64, qy: i64) -> Object
+    ensures { λ r. ⌜ r ≡ objectOf kind px py qx qy ⌝ }
+{
+    Object {
+        kind,
+        px,
+        py,
+        qx,
+        qy,
+    }
+}
+
 pub(crate) fn no_part(refusal: i64) -> Part
     ensures { λ r. ⌜ (r .refusal ≡ refusal) × (r .size ≡ 0) ⌝ }
 {
     Part {
         refusal,
-        object: Object {
-            kind: 0,
-            px: 0,
-            py: 0,
-            qx: 0,
-            qy: 0,
-        },
+        object: object_of(0, 0, 0, 0, 0),
         size: 0,
     }
 }
@@ -141,13 +148,7 @@ pub(crate) fn read_side(bytes: &[u8]) -> Part
     }
     Part {
         refusal: 0,
-        object: Object {
-            kind: Object::SIDE,
-            px: n as i64,
-            py: 0,
-            qx: 0,
-            qy: 0,
-        },
+        object: object_of(Object::SIDE, n as i64, 0, 0, 0),
         size: read.size,
     }
 }
@@ -169,13 +170,7 @@ pub(crate) fn read_to(kind: u64, px: i64, py: i64, bytes: &[u8]) -> Part
     }
     Part {
         refusal: 0,
-        object: Object {
-            kind: kind as i64,
-            px,
-            py,
-            qx,
-            qy,
-        },
+        object: object_of(kind as i64, px, py, qx, qy),
         size: q.size,
     }
 }

@@ -2,6 +2,7 @@
 // gives the place behind, whether or not there is room: put into no bytes they are a count of them, so that an object is written in one place.
 use number::put_stored;
 use sheet::Object;
+use sheet::lists::list_refusal;
 use sheet::lists::object_at;
 ghost use mathlib.Core.Path.{_≡_};
 ghost use Prim.Native.Nat.{_+_, _≤_};
@@ -11,7 +12,7 @@ ghost use Rattle.sheet.specs.Lent.{Wrote};
 ghost use Rattle.sheet.specs.Lists.{countOf};
 ghost use Rattle.sheet.specs.Listable.{Listable};
 ghost use Rattle.number.specs.Number.{zigzag};
-ghost use Rattle.store.specs.Stored.{plain, writeObject, writeObjects, writeDrawing};
+ghost use Rattle.store.specs.Stored.{plain, writeObject, writeObjects, writeDrawing, writeRefusal};
 ghost use Rattle.store.specs.Bounded.{Bounded, pairNumbers, sideNumbers};
 
 // How many numbers are stored for an object with two points, and for a side.
@@ -61,6 +62,13 @@ pub(crate) fn side_numbers(o: Object) -> [u64; SIDE]
     let kind = o.kind as u64;
     let number = whole::size(o.px);
     [kind, number]
+}
+
+// What a list that is to be written is refused by, before 10; 0 for none.
+pub(crate) fn write_refusal(list: &[i64]) -> i64
+    ensures { λ r. ⌜ r ≡ writeRefusal (now (list .entry)) ⌝ }
+{
+    list_refusal(list)
 }
 
 // Puts an object at a place, and gives the place behind it.

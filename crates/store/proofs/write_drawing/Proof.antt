@@ -11,9 +11,8 @@ use lib.ListN.{length}
 use Rattle.sheet.specs.AnswersLaws.{not-refused}
 use Rattle.sheet.specs.Lent.{Wrote}
 use Rattle.sheet.specs.LentLaws.{refused, short, done, clipped-is, wrote-size, wrote-front}
-use Rattle.sheet.specs.Lists.{listRefusal}
 use Rattle.sheet.specs.ListsLaws.{listable}
-use Rattle.store.specs.Stored.{writeDrawing}
+use Rattle.store.specs.Stored.{writeDrawing, writeRefusal}
 use Rattle.store.specs.AnswersLaws.{write-ends}
 use Rattle.store.specs.LongestLaws.{write-no-longer}
 use Rattle.store.proofs.write_drawing.Statement.{statement}
@@ -22,15 +21,15 @@ use Rattle.store.proofs.write_drawing.Tie as tie
 returns : tie.Need-returns
 returns c =
     let s = c .before .before .before in
-    let r = c .before .list-refusal in
+    let r = c .before .write-refusal in
     write-ends (s .args .list .now) (s .args .out .now) (refused (r .ok) (r .ensures) (c .if1 .taken))
 
 -- the list is accepted
-taken : (c : tie.Else1) → listRefusal (c .before .before .before .args .list .now) ≡ pos 0
-taken c = let r = c .before .list-refusal in not-refused (r .ok) (r .ensures) (c .if1 .left)
+taken : (c : tie.Else1) → writeRefusal (c .before .before .before .args .list .now) ≡ pos 0
+taken c = let r = c .before .write-refusal in not-refused (r .ok) (r .ensures) (c .if1 .left)
 
 -- what was put tells the length of the drawing
-long : (list : List ℤ) {d d′ : List ℕ} {size : ℕ} → listRefusal list ≡ pos 0 → Wrote d d′ 0 size (writeDrawing list) → size ≡ length (writeDrawing list)
+long : (list : List ℤ) {d d′ : List ℕ} {size : ℕ} → writeRefusal list ≡ pos 0 → Wrote d d′ 0 size (writeDrawing list) → size ≡ length (writeDrawing list)
 long list z w = wrote-size w ∙ clipped-is (omega (arith, write-no-longer list z))
 
 write-all-requires : tie.Need-write-all-requires

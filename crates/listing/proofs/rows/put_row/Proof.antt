@@ -3,12 +3,10 @@ use mathlib.Core.Path.{_≡_, sym, ap, subst, _∙_}
 use mathlib.Core.List.{_∷_}
 use native.Mathlib.Omega.{arith}
 use lib.IntN.{pos}
-use Rattle.sheet.specs.declared.Object.{Object}
 use Rattle.sheet.specs.declared.Point.{Point}
 use Rattle.sheet.specs.Points.{numbers}
 use Rattle.sheet.specs.Refusal.{Accepted}
 use Rattle.sheet.specs.Crossing.{crossingOf}
-use Rattle.sheet.specs.Lists.{objectAt}
 use Rattle.sheet.specs.LentLaws.{wrote-none, wrote-as}
 use Rattle.sheet.specs.Meetings.{meetingBy}
 use Rattle.kernel.proofs.Handed as handed
@@ -20,26 +18,27 @@ use Rattle.listing.proofs.rows.put_row.Tie as tie
 
 meet-requires : tie.Need-meet-requires
 meet-requires c κs =
-    let p = c .pre in
-    (subst Accepted (sym (p .1)) (p .0 .list .each (c .args .i) (p .0 .one)), (p .0 .list, p .0 .two))
+    let s = c .before in
+    let p = s .pre in (
+      subst Accepted (sym (p .1)) (p .0 .list .each (s .args .i) (p .0 .one)),
+      subst Accepted (sym (c .object-at .ensures)) (p .0 .list .each (s .args .j) (p .0 .two)),
+    )
 
 -- what the two share: object i is the one that was handed in
-met : (c : tie.After-meet) → meetingBy (c .meet .result) ≡ meetingOf (c .before .args .list .now) (c .before .args .i) (c .before .args .j)
+met : (c : tie.After-meet) → let s = c .before .before in meetingBy (c .meet .result) ≡ meetingOf (s .args .list .now) (s .args .i) (s .args .j)
 unfolding meetingOf
-met c =
-    let s = c .before in
-    c .meet .ensures ∙ ap (λ (a : Object). crossingOf a (objectAt (s .args .list .now) (s .args .j))) (s .pre .1)
+met c = c .meet .ensures ∙ (λ k. crossingOf (c .before .before .pre .1 k) (c .before .object-at .ensures k))
 
 write-row-requires : tie.Need-write-row-requires
 write-row-requires c κs =
-    let s = c .before .before .before .before .before .before .before .before .before .before in
+    let s = c .before .before .before .before .before .before .before .before .before .before .before in
     (omega (arith, s .pre .0 .list .few, s .pre .0 .one), omega (arith, s .pre .0 .list .few, s .pre .0 .two))
 
 returns : tie.Need-returns
 returns c =
     let w = c .before .write-row in
     let k = c .before .before .before .before .before .before .before .before in
-    let s = k .before .before .before .before in
+    let s = k .before .before .before .before .before in
     let t = c .before .before .before .before .before .before .struct-told .given in
     let e = k .before .p .given in
     let same = handed.point-told (e .0 .0) t in
@@ -49,25 +48,25 @@ returns c =
 
 write-row-requires-2 : tie.Need-write-row-requires-2
 write-row-requires-2 c κs =
-    let s = c .before .before .before .before in
+    let s = c .before .before .before .before .before in
     (omega (arith, s .pre .0 .list .few, s .pre .0 .one), omega (arith, s .pre .0 .list .few, s .pre .0 .two))
 
 returns-2 : tie.Need-returns-2
 returns-2 c =
     let k = c .before .before .before in
-    let s = k .before .before .before in
+    let s = k .before .before .before .before in
     wrote-as (c .before .write-row2 .ensures)
     (row-many (s .args .list .now) (s .args .i) (s .args .j) (sym (ap meetingBy (k .enum-told .given .1)) ∙ met (k .before .before)))
 
 returns-3 : tie.Need-returns-3
 returns-3 c =
-    let s = c .before .before .before in
+    let s = c .before .before .before .before in
     wrote-as (wrote-none (omega arith) (omega arith))
     (row-none (s .args .list .now) (s .args .i) (s .args .j) (sym (ap meetingBy (c .enum-told2 .given .1)) ∙ met (c .before .before)))
 
 returns-4 : tie.Need-returns-4
 returns-4 c =
-    let s = c .before .before .before in
+    let s = c .before .before .before .before in
     wrote-as (wrote-none (omega arith) (omega arith))
     (row-none (s .args .list .now) (s .args .i) (s .args .j) (sym (ap meetingBy (c .enum-told3 .given .1)) ∙ met (c .before .before)))
 
@@ -75,6 +74,7 @@ pub put-row-spec : {M : Type 1} → statement M
 put-row-spec =
     tie.close
     (tie.spec
+    (λ c κs. search needs)
     meet-requires
     (λ c. search needs)
     write-row-requires

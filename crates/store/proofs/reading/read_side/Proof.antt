@@ -36,11 +36,12 @@ returns-2 c =
 returns-3 : tie.Need-returns-3
 unfolding readSide
 returns-3 c =
-    let s = c .before .before .before in
+    let t = c .before in
+    let s = t .before .before .before in
     let read = s .read-number .result in
-    reads-as refl (ap sideObject (toZ-pos w64 {n = read .value} (omega (arith, s .read-number .ensures .1 .0))))
+    reads-as refl (c .object-of .ensures ∙ ap sideObject (toZ-pos w64 {n = read .value} (omega (arith, s .read-number .ensures .1 .0))))
     (reads-taken
-    (on-taken (told s) (c .before .before .struct-told .given .0 .1) _ (c .before .if1 .left) ∙ simp (c .if2 .left))
+    (on-taken (told s) (t .before .before .struct-told .given .0 .1) _ (t .before .if1 .left) ∙ simp (t .if2 .left))
     (told s .within))
 
 pub read-side-spec : {M : Type 1} → statement M
@@ -53,4 +54,5 @@ read-side-spec =
     (λ c κs. search needs)
     returns-2
     (λ c. search needs)
+    (λ c κs. search needs)
     returns-3)

@@ -9,7 +9,7 @@ use mir.Val.{ofZ}
 use mir.Facts.{toZ-pos}
 use Rattle.sheet.specs.Refusal.{equal}
 use Rattle.whole.specs.Tests.{out-is, out-ok, fits-ok, eq-flag}
-use Rattle.store.specs.Stored.{readTo}
+use Rattle.store.specs.Stored.{objectOf, readTo}
 use Rattle.number.specs.ReadAsLaws.{on-refused, on-taken, reads-taken, reads-refused, reads-as, reads-no}
 use Rattle.store.proofs.reading.read_to.Statement.{statement}
 use Rattle.store.proofs.reading.read_to.Tie as tie
@@ -46,21 +46,17 @@ returns-2 c =
 returns-3 : tie.Need-returns-3
 unfolding readTo
 returns-3 c =
-    let t = c .before in
+    let t = c .before .before in
     let first = t .before .before .before .before in
     let s = first .before .before in
     let q = first .read-point .result in
     let told = t .before .before .before .struct-told .given in
     let point = on-taken (first .read-point .ensures) (told .0 .1) _ (t .before .before .if1 .left) in
+    let kind = toZ-pos w64 {n = s .args .kind} (omega arith) in
     reads-as refl
-    (λ i. record {
-      kind = toZ-pos w64 {n = s .args .kind} (omega arith) i;
-      px = out-is (s .fits .px) i;
-      py = out-is (s .fits .py) i;
-      qx = out-ok (q .x) (told .1 .0 .1) i;
-      qy = out-ok (q .y) (told .1 .1 .0 .1) i;
-    })
-    (reads-taken (point ∙ simp (twice t (c .if2 .left))) (first .read-point .ensures .within))
+    (c .object-of .ensures
+    ∙ (λ i. objectOf (kind i) (out-is (s .fits .px) i) (out-is (s .fits .py) i) (out-ok (q .x) (told .1 .0 .1) i) (out-ok (q .y) (told .1 .1 .0 .1) i)))
+    (reads-taken (point ∙ simp (twice t (c .before .if2 .left))) (first .read-point .ensures .within))
 
 pub read-to-spec : {M : Type 1} → statement M
 read-to-spec =
@@ -72,4 +68,5 @@ read-to-spec =
     (λ c κs. search needs)
     returns-2
     (λ c. search needs)
+    (λ c κs. search needs)
     returns-3)
