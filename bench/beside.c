@@ -10,12 +10,15 @@ int64_t other_list(const int64_t *list, size_t length, int64_t *rows, size_t roo
 int64_t other_read(const uint8_t *bytes, size_t length, int64_t *list, size_t room);
 int64_t other_write(const int64_t *list, size_t length, uint8_t *bytes, size_t room);
 
+enum { LIST_LENGTH = 14 }; /* the refusal */
+
 static int64_t list[NUMBERS], back[NUMBERS], rows[ROW * PAIRS], other[ROW * PAIRS];
 static uint8_t bytes[BYTES], again[BYTES];
 
-/* the drawing of the list: written into more bytes than it needs, into as many as it needs, into none, and read */
-static void race_drawings(const char *name)
+/* the drawing of a sheet: written into more bytes than it needs, into as many as it needs, into none, and read */
+static void race_drawings(const char *name, void (*make)(int64_t *, int))
 {
+    make_sheet(list, make, ONE_LAYER);
     size_t size = (size_t)plain_write(list, NUMBERS, again, BYTES);
     if (silvanelga_trial_write(list, NUMBERS, bytes, size) != 0 || memcmp(bytes, again, size) != 0) fail("a drawing is wrong");
     if (other_write(list, NUMBERS, again, size) != 0 || memcmp(bytes, again, size) != 0) fail("the two drawings differ");
@@ -37,19 +40,18 @@ int main(void)
 {
     for (int k = 0; k < SHEETS; k++) {
         double ours = 0, theirs = 0;
-        make_sheet(k, list);
+        make_sheet(list, sheets[k].make, LAYERS);
         memset(rows, 1, sizeof rows), memset(other, 1, sizeof other);
         if (silvanelga_trial_list(list, NUMBERS, rows, ROW * PAIRS) != 0) fail("a sheet was refused");
-        if (other_list(list, NUMBERS, other, ROW * PAIRS) != 0) fail("the other build refused a sheet");
+        int64_t refusal = other_list(list, NUMBERS, other, ROW * PAIRS);
+        if (refusal == LIST_LENGTH) fail("an object of the other build has more or fewer numbers");
+        if (refusal != 0) fail("the other build refused a sheet");
         if (memcmp(rows, other, sizeof rows) != 0) fail("the two listings differ");
         RACE(silvanelga_trial_list(list, NUMBERS, rows, ROW * PAIRS), other_list(list, NUMBERS, other, ROW * PAIRS), ours, theirs)
         printf("%s\t%.3f\t%.3f\n", sheets[k].name, theirs / PAIRS, ours / PAIRS);
     }
-    for (int i = 0; i < MOST; i++) sides(list + WIDTH * i, i);
-    race_drawings("mixed");
-    for (int i = 0; i < MOST; i++) grid(list + WIDTH * i, i);
-    race_drawings("near");
-    for (int i = 0; i < MOST; i++) chains(list + WIDTH * i, i);
-    race_drawings("chains");
+    race_drawings("mixed", sides);
+    race_drawings("near", grid);
+    race_drawings("chains", chains);
     return 0;
 }

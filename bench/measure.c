@@ -38,7 +38,7 @@ int main(void)
     printf("%-12s %9s %12s %12s %7s%s\n", "listing", "rows", "ns a pair", "plain C", "ratio", CGAL_COLUMNS);
     for (int k = 0; k < SHEETS; k++) {
         double ours = 0, plain = 0;
-        make_sheet(k, list);
+        make_sheet(list, sheets[k].make, LAYERS);
         memset(rows, 1, sizeof rows), memset(other, 1, sizeof other);
         int64_t n = plain_list(list, NUMBERS, other, ROW * PAIRS);
         if (n < 0 || silvanelga_trial_list(list, NUMBERS, rows, ROW * PAIRS) != 0) fail("a sheet was refused");
@@ -50,7 +50,7 @@ int main(void)
     }
 
     double ours = 0, plain = 0;
-    for (int i = 0; i < MOST; i++) sides(list + WIDTH * i, i);
+    make_sheet(list, sides, ONE_LAYER);
     int64_t size = plain_write(list, NUMBERS, again, BYTES);
     if (size < 0 || silvanelga_trial_write(list, NUMBERS, bytes, BYTES) != 0 || memcmp(bytes, again, BYTES) != 0) fail("the two drawings differ");
     if (silvanelga_trial_read(bytes, (size_t)size, back, NUMBERS) != 0 || memcmp(list, back, sizeof list) != 0) fail("the drawing did not come back");

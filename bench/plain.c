@@ -2,7 +2,7 @@
 #include "plain_numbers.h"
 #include <stdbool.h>
 
-typedef struct { int64_t kind, px, py, qx, qy; } object;
+typedef struct { int64_t kind, px, py, qx, qy, tag; } object;
 typedef enum { NOTHING, ONCE, MANY } what;
 typedef struct { what what; point e; } meeting;
 
@@ -11,9 +11,13 @@ static bool beyond(int64_t z) { return z < -REACH || REACH < z; }
 static int64_t refusal(const object *o)
 {
     if (o->kind < 1 || 4 < o->kind) return 1;
-    if (o->kind == 4) return o->px < 1 || 4 < o->px || o->py != 0 || o->qx != 0 || o->qy != 0 ? 4 : 0;
-    if (beyond(o->px) || beyond(o->py) || beyond(o->qx) || beyond(o->qy)) return 2;
-    return o->px == o->qx && o->py == o->qy ? 3 : 0;
+    if (o->kind == 4) {
+        if (o->px < 1 || 4 < o->px || o->py != 0 || o->qx != 0 || o->qy != 0) return 4;
+    } else {
+        if (beyond(o->px) || beyond(o->py) || beyond(o->qx) || beyond(o->qy)) return 2;
+        if (o->px == o->qx && o->py == o->qy) return 3;
+    }
+    return o->tag < 0 || LAST_TAG < o->tag ? 15 : 0;
 }
 
 static meeting nothing(void) { return (meeting){.what = NOTHING}; }
@@ -102,7 +106,7 @@ static meeting cross(const object *a, const object *b)
 static object object_at(const int64_t *list, size_t i)
 {
     const int64_t *o = list + WIDTH * i;
-    return (object){o[0], o[1], o[2], o[3], o[4]};
+    return (object){o[0], o[1], o[2], o[3], o[4], o[TAG]};
 }
 
 static int64_t list_refusal(const int64_t *list, size_t length)
@@ -136,6 +140,7 @@ int64_t plain_list(const int64_t *list, size_t length, int64_t *rows, size_t roo
             } else {
                 row[3] = row[4] = row[5] = row[6] = row[7] = 0;
             }
+            row[8] = a.tag, row[9] = b.tag;
             at += ROW;
         }
     }
@@ -157,18 +162,19 @@ static int64_t number(const uint8_t *bytes, size_t length, size_t *at, int64_t *
     return 0;
 }
 
-/* one object, into o where it is not null */
+/* one object; the bytes have no place for its tag, which is 0 */
 static int64_t read_object(const uint8_t *bytes, size_t length, size_t *at, int64_t o[WIDTH])
 {
     int64_t no = number(bytes, length, at, &o[0]);
     if (no != 0) return no;
     if (o[0] < 1 || 4 < o[0]) return 1;
+    o[TAG] = 0;
     if (o[0] == 4) {
         o[2] = o[3] = o[4] = 0;
         no = number(bytes, length, at, &o[1]);
         return no != 0 ? no : o[1] < 1 || 4 < o[1] ? 4 : 0;
     }
-    for (int k = 1; k < WIDTH; k++) {
+    for (int k = 1; k < TAG; k++) {
         int64_t n;
         no = number(bytes, length, at, &n);
         if (no != 0) return no;
@@ -213,19 +219,22 @@ int64_t plain_write(const int64_t *list, size_t length, uint8_t *bytes, size_t r
     int64_t no = list_refusal(list, length);
     if (no != 0) return -no;
     size_t count = length / WIDTH, need = width_of(count), at;
+    int64_t tags = 0;
     for (size_t i = 0; i < count; i++) {
         const int64_t *o = list + WIDTH * i;
+        tags |= o[TAG];
         need += 1;
         if (o[0] == 4) need += 1;
-        else for (int k = 1; k < WIDTH; k++) need += width_of(folded(o[k]));
+        else for (int k = 1; k < TAG; k++) need += width_of(folded(o[k]));
     }
+    if (tags != 0) return -16;
     if (room < need) return -10;
     at = put(bytes, count);
     for (size_t i = 0; i < count; i++) {
         const int64_t *o = list + WIDTH * i;
         at += put(bytes + at, (uint64_t)o[0]);
         if (o[0] == 4) at += put(bytes + at, (uint64_t)o[1]);
-        else for (int k = 1; k < WIDTH; k++) at += put(bytes + at, folded(o[k]));
+        else for (int k = 1; k < TAG; k++) at += put(bytes + at, folded(o[k]));
     }
     return (int64_t)at;
 }

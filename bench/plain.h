@@ -5,7 +5,8 @@
 #include <stddef.h>
 #include <stdint.h>
 
-enum { WIDTH = 5, ROW = 8, MOST = 512, REACH = 2000 };
+enum { WIDTH = 6, ROW = 10, MOST = 512, REACH = 2000, LAST_TAG = 2000000 };
+enum { TAG = WIDTH - 1 }; /* where it stands among the numbers of an object; p and q stand between the kind and it */
 
 /* the rows of all sharing pairs; their count, or minus the refusal */
 int64_t plain_list(const int64_t *list, size_t length, int64_t *rows, size_t room);

@@ -10,7 +10,7 @@ static void pair(int64_t *o, int64_t kind, int64_t reach)
 {
     o[0] = kind;
     do {
-        for (int k = 1; k < WIDTH; k++) o[k] = pick(-reach, reach);
+        for (int k = 1; k < TAG; k++) o[k] = pick(-reach, reach);
     } while (o[1] == o[3] && o[2] == o[4]);
 }
 
@@ -35,9 +35,11 @@ static const struct { const char *name; void (*make)(int64_t *, int); } sheets[]
     {"uniform", uniform}, {"lines only", lines}, {"grid", grid}, {"chains", chains}, {"with sides", sides}};
 enum { SHEETS = sizeof sheets / sizeof *sheets };
 
-static void make_sheet(int k, int64_t *list)
+/* a sheet whose objects are of so many layers in turn: of one layer the tags are all 0, and it can be stored */
+enum { ONE_LAYER = 1, LAYERS = 3 };
+static void make_sheet(int64_t *list, void (*make)(int64_t *, int), int layers)
 {
-    for (int i = 0; i < MOST; i++) sheets[k].make(list + WIDTH * i, i);
+    for (int i = 0; i < MOST; i++) make(list + WIDTH * i, i), list[WIDTH * i + TAG] = i % layers;
 }
 
 #endif

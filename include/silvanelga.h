@@ -28,7 +28,7 @@ enum silvanelga_refusal {
     SILVANELGA_NO_KIND = 1,        /* * kind not 1 to 4 */
     SILVANELGA_TOO_FAR = 2,        /* * a coordinate beyond 2000 either way */
     SILVANELGA_SAME_POINTS = 3,    /* * p equals q */
-    SILVANELGA_NO_SIDE = 4,        /* * side number not 1 to 4, or one of the other three numbers not 0 */
+    SILVANELGA_NO_SIDE = 4,        /* * side number not 1 to 4, or one of py, qx and qy not 0 */
     SILVANELGA_NO_POINT = 5,       /*   five numbers that are no point */
     SILVANELGA_WIDE_POINT = 6,     /*   a point too wide for a turn */
     SILVANELGA_BYTES_END = 7,      /* * the bytes end where a number must begin or go on */
@@ -38,7 +38,9 @@ enum silvanelga_refusal {
     SILVANELGA_TOO_MANY = 11,      /* * more than 512 objects */
     /* 12 was a refusal of earlier builds, and is not used again */
     SILVANELGA_NO_OBJECT = 13,     /* * object index below 0 or not below the count (silvanelga_side alone) */
-    SILVANELGA_LIST_LENGTH = 14,   /*   list length not a multiple of five */
+    SILVANELGA_LIST_LENGTH = 14,   /*   list length not a multiple of six, or of ten for rows */
+    SILVANELGA_NO_TAG = 15,        /*   a tag below 0 or above 2,000,000 */
+    SILVANELGA_TAG_LOST = 16,      /*   a tag other than 0 written as a stored drawing, which has no place for it */
     SILVANELGA_NOT_GIVEN = 21      /*   of the first three points of a circle, or a standard fourth, one that is no given point */
 };
 

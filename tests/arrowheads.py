@@ -2,11 +2,11 @@
 6 mm: along its side at slope times R, plus offset. `tests/45-places picture` prints it, from what the library answers."""
 import math
 
-LINES = {'(0, 1) to (2, 2)': (3, 0, 1, 2, 2), '(0, 0) to (2, 1)': (3, 0, 0, 2, 1)}   # those of rows 4 and 6
+LINES = {'(0, 1) to (2, 2)': (3, 0, 1, 2, 2, 0), '(0, 0) to (2, 1)': (3, 0, 0, 2, 1, 0)}  # those of rows 4 and 6
 COLOURS = ('#0072B2', '#D55E00')
-R, MM = 6, 30                                                                       # in millimetres; pixels a millimetre
-TOP, LEFTS, LEGEND, FOOT = 80, (40, 580), (470, 490), 515                           # of the two frames, the lines' names and the last words
-LENGTH, SPREAD = 20, 0.4                                                            # of an arrowhead, in pixels; to either side, in radians
+R, MM = 6, 30                                                                             # in millimetres; pixels a millimetre
+TOP, LEFTS, LEGEND, FOOT = 80, (40, 580), (470, 490), 515                                 # of the two frames, the lines' names and the last words
+LENGTH, SPREAD = 20, 0.4                                                                  # of an arrowhead, in pixels; to either side, in radians
 
 
 def spot(left, side, along):

@@ -2,12 +2,11 @@
    after one crossing a pair, and into room for exactly every pair, which is to take one crossing a pair as well.
    Standard output: how many pairs, and both counts. */
 #include "steps.h"
+#include "trial.h"
 #include <stdio.h>
 #include <stdlib.h>
 
-int64_t silvanelga_trial_list(const int64_t *list, size_t length, int64_t *rows, size_t room);
-
-enum { OBJECTS = 24, WIDTH = 5, ROW = 8, PAIRS = OBJECTS * (OBJECTS - 1) / 2, SHORT = 10 };
+enum { OBJECTS = 24, PAIRS = OBJECTS * (OBJECTS - 1) / 2, SHORT = 10 };
 
 static long counted(const int64_t *list, int64_t *rows, size_t room, int64_t due)
 {
@@ -21,7 +20,7 @@ int main(void)
 {
     static int64_t list[OBJECTS * WIDTH], rows[PAIRS * ROW];
     for (int k = 0; k < OBJECTS; k++) { /* lines with a slope each: every two share one point */
-        int64_t line[WIDTH] = {3, 7 * k, -11 * k, 7 * k + 100, k - 11 * k};
+        int64_t line[WIDTH] = {3, 7 * k, -11 * k, 7 * k + 100, k - 11 * k, k};
         for (int n = 0; n < WIDTH; n++) list[WIDTH * k + n] = line[n];
     }
     count_steps();

@@ -3,16 +3,14 @@
    for each case how many divisions the library makes, and how many the order of work makes that it had before: from w on to the end, and
    every number divided. The second is C, and counted in the same way. */
 #include "steps.h"
+#include "trial.h"
 #include <inttypes.h>
 #include <stdio.h>
 #include <stdlib.h>
 #include <string.h>
 
-typedef struct { int64_t refusal, number; double values[4]; } shown;
-shown silvanelga_trial_place(int64_t mx, int64_t nx, int64_t my, int64_t ny, int64_t w);
-int64_t silvanelga_trial_list(const int64_t *list, size_t length, int64_t *rows, size_t room);
-
-enum { NUMBERS = 5, OBJECTS = 2, ROW = 8, ONE_POINT = 1 };
+enum { NUMBERS = 5 }; /* of a point */
+enum { OBJECTS = 2, ONE_POINT = 1 };
 
 static uint64_t size(int64_t n) { return n < 0 ? -(uint64_t)n : (uint64_t)n; }
 
@@ -55,10 +53,10 @@ int main(void)
     char kind[8];
     count_steps();
     while (scanf("%7s", kind) == 1) {
-        int64_t n[NUMBERS], list[OBJECTS * NUMBERS], row[ROW] = {0};
+        int64_t n[NUMBERS], list[OBJECTS * WIDTH], row[ROW] = {0};
         long library;
         if (strcmp(kind, "point") == 0) {
-            shown place;
+            struct shown place;
             uint64_t divisor;
             read_numbers(n, NUMBERS);
             COUNTED(place = silvanelga_trial_place(n[0], n[1], n[2], n[3], n[4]));
@@ -67,9 +65,9 @@ int main(void)
             if (place.refusal == 0 && divisor != 1) fail("a point has a divisor");
         } else {
             int64_t refusal;
-            read_numbers(list, OBJECTS * NUMBERS);
+            read_numbers(list, OBJECTS * WIDTH);
             read_numbers(n, NUMBERS);
-            COUNTED(refusal = silvanelga_trial_list(list, OBJECTS * NUMBERS, row, ROW));
+            COUNTED(refusal = silvanelga_trial_list(list, OBJECTS * WIDTH, row, ROW));
             library = divisions;
             COUNTED(before_divided(n));
             if (refusal != 0 || row[2] != ONE_POINT || memcmp(row + 3, n, sizeof n) != 0) fail("a pair shares another point");

@@ -1,15 +1,12 @@
 /* Reads many stored drawings in one process. Standard input: for each drawing its length, the room lent and the
    numbers that its objects have, 32 bits each, then its bytes.
    Standard output, in 64-bit numbers: the refusal, the lent cells afterwards, and whether writing them gives the same bytes again. */
-#include <stdint.h>
+#include "trial.h"
 #include <stdio.h>
 #include <stdlib.h>
 #include <string.h>
 
-int64_t silvanelga_trial_read(const uint8_t *bytes, size_t length, int64_t *list, size_t room);
-int64_t silvanelga_trial_write(const int64_t *list, size_t length, uint8_t *bytes, size_t room);
-
-enum { WIDTH = 5, LENT = 77, UNTOUCHED = 170 };
+enum { LENT = 77, UNTOUCHED = 170 };
 
 static void *held(size_t size)
 {

@@ -5,13 +5,13 @@ from fractions import Fraction
 from itertools import combinations, permutations
 from math import gcd
 
-REACH, MOST = 2000, 512
-WIDTH, ROW = 5, 8                               # numbers of an object in a list, and of a row of a listing
+REACH, MOST, LAST_TAG = 2000, 512, 2_000_000
+WIDTH, ROW = 6, 10                              # numbers of an object in a list, and of a row of a listing
 WIDEST, FAR = 32_000_000, 64_000_000_000        # w and n of a standard point
 NARROW, NEAR = 4_000, 8_000_000                 # w and n of a frame point
 FRAMES = (10**15, 3 * 10**18 + 7)               # the smallest frame that R-13 names, and one above that of demand 3
 CIRCLE_FRAMES = (2 * 10**18, FRAMES[1])         # the smallest frame of demand 3, which R-12 keeps, and one above
-REFUSALS = (*range(1, 12), 13, 14, 21)          # the numbers that say no; 12 is taken out, and not used again
+REFUSALS = (*range(1, 12), *range(13, 17), 21)  # the numbers that say no; 12 is taken out, and not used again
 
 
 class Refused(Exception):
@@ -21,18 +21,20 @@ class Refused(Exception):
 
 # ---- which numbers are refused: each number of the table that would do, in the order in which the paper gives them
 
-def object_refusals(kind, px, py, qx, qy):
-    """One object: 1, then 4 for kind 4; else 2, then 3."""
+def object_refusals(kind, px, py, qx, qy, tag):
+    """One object: 1, then 4 for kind 4; else 2, then 3. After 3 or 4 comes 15."""
     if not 1 <= kind <= 4:
         yield 1
     if kind == 4:
         if not 1 <= px <= 4 or (py, qx, qy) != (0, 0, 0):
             yield 4
-        return
-    if any(abs(coordinate) > REACH for coordinate in (px, py, qx, qy)):
-        yield 2
-    if (px, py) == (qx, qy):
-        yield 3
+    else:
+        if any(abs(coordinate) > REACH for coordinate in (px, py, qx, qy)):
+            yield 2
+        if (px, py) == (qx, qy):
+            yield 3
+    if not 0 <= tag <= LAST_TAG:
+        yield 15
 
 
 def objects_in(numbers):
@@ -48,6 +50,13 @@ def list_refusals(numbers):
         yield 11
     for one in objects_in(numbers):
         yield from object_refusals(*one)
+
+
+def write_refusals(numbers):
+    """A list that is to be stored: its own, then 16 where there is a tag other than 0."""
+    yield from list_refusals(numbers)
+    if any(tag != 0 for *_, tag in objects_in(numbers)):
+        yield 16
 
 
 def point_refusals(mx, nx, my, ny, w):
@@ -96,7 +105,7 @@ def stored_number(data, at):
 
 
 def read(data):
-    """The objects of a stored drawing, each a tuple (kind, px, py, qx, qy)."""
+    """The objects of a stored drawing, each a tuple (kind, px, py, qx, qy, tag); it has no place for a tag, which is 0."""
     count, at = stored_number(data, 0)
     if count > MOST:
         raise Refused(11)
@@ -109,7 +118,7 @@ def read(data):
             side, at = stored_number(data, at)
             if not 1 <= side <= 4:
                 raise Refused(4)
-            objects.append((4, side, 0, 0, 0))
+            objects.append((4, side, 0, 0, 0, 0))
             continue
         numbers = []
         for _ in range(4):
@@ -120,7 +129,7 @@ def read(data):
             numbers.append(number)
         if numbers[:2] == numbers[2:]:
             raise Refused(3)
-        objects.append((kind, *numbers))
+        objects.append((kind, *numbers, 0))
     if at != len(data):
         raise Refused(9)
     return objects
@@ -131,8 +140,10 @@ def write_number(number):
 
 
 def write(objects):
+    """The bytes of objects that are not refused: their tags are all 0."""
     out = write_number(len(objects))
-    for kind, *numbers in objects:
+    for kind, *numbers, tag in objects:
+        assert tag == 0, 'a stored drawing has no place for a tag'
         out += write_number(kind)
         if kind == 4:
             out += write_number(numbers[0])
@@ -145,7 +156,7 @@ def write(objects):
 # ---- an object cut at the square from -R to R: the two ends of a closed segment, in its direction
 
 def cut(obj, R):
-    kind, px, py, qx, qy = obj
+    kind, px, py, qx, qy, _ = obj
     if kind == 4:
         corners = [(-R, R), (-R, -R), (R, -R), (R, R), (-R, R)]
         return corners[px - 1], corners[px]
@@ -243,17 +254,18 @@ def crossing(a, b, pieces):
 
 
 def rows(objects):
+    """For each pair that shares something i, j, what it shares, and the tags of i and j."""
     pieces = [[cut(o, R) for R in FRAMES] for o in objects]
     for i in range(len(objects)):
         for j in range(i + 1, len(objects)):
             what = crossing(i, j, pieces)
             if what is not None:
-                yield i, j, what
+                yield i, j, what, objects[i][-1], objects[j][-1]
 
 
 def row_numbers(objects):
-    """Each row is eight numbers: i, j, 1 for point or 2 for many, and the five numbers (0 for many)."""
-    return [number for i, j, what in rows(objects) for number in ((i, j, 2, 0, 0, 0, 0, 0) if what == 'many' else (i, j, 1, *what))]
+    """Each row is ten numbers: i, j, 1 for point or 2 for many, the five numbers (0 for many), and the tags of i and j."""
+    return [number for i, j, what, *tags in rows(objects) for number in (i, j, *((2, 0, 0, 0, 0, 0) if what == 'many' else (1, *what)), *tags)]
 
 
 def listing(data):
@@ -263,8 +275,8 @@ def listing(data):
     except Refused as no:
         return f'refused {no.number}\n'
     lines = [f'objects {len(objects)}']
-    for i, j, what in rows(objects):
-        lines.append(f'{i} {j} many' if what == 'many' else f'{i} {j} point ' + ' '.join(map(str, what)))
+    for i, j, what, *tags in rows(objects):
+        lines.append(' '.join(map(str, (i, j, *(['many'] if what == 'many' else ['point', *what]), *tags))))
     lines.append(f'rows {len(lines) - 1}')
     return '\n'.join(lines) + '\n'
 
@@ -279,7 +291,7 @@ def side(data, i, x, y):
             raise Refused(2)
     except Refused as no:
         return 100 + no.number
-    kind, px, py, qx, qy = objects[i]
+    kind, px, py, qx, qy, _ = objects[i]
     ends = cut(objects[i], FRAMES[0]) if kind == 4 else ((px, py), (qx, qy))
     t = turn(*ends, (x, y))
     return (t > 0) - (t < 0)

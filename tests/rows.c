@@ -2,13 +2,10 @@
    bytes lent for its drawing, 32 bits each; then its numbers, 64 bits each.
    Standard output, in 64-bit numbers: the refusal of its listing and the lent numbers afterwards; the refusal of its drawing and the lent bytes
    afterwards. */
-#include <stdint.h>
+#include "trial.h"
 #include <stdio.h>
 #include <stdlib.h>
 #include <string.h>
-
-int64_t silvanelga_trial_list(const int64_t *list, size_t length, int64_t *rows, size_t room);
-int64_t silvanelga_trial_write(const int64_t *list, size_t length, uint8_t *bytes, size_t room);
 
 enum { LENT = 77 };
 

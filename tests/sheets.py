@@ -17,7 +17,7 @@ def objects(rng, reach, kinds, most):
     made = []
     for _ in range(rng.randint(0, most)):
         kind = rng.choice(kinds)
-        made.append((4, rng.randint(1, 4), 0, 0, 0) if kind == 4 else (kind, *pair(rng, reach)))
+        made.append((4, rng.randint(1, 4), 0, 0, 0, 0) if kind == 4 else (kind, *pair(rng, reach), 0))
     return made
 
 
@@ -26,8 +26,8 @@ def diagonal(rng, most):
     made = []
     for _ in range(rng.randint(0, most)):
         x, y, step = rng.randint(-2, 2), rng.randint(-2, 2), rng.choice((-3, -1, 1, 2))
-        made.append((rng.choice((1, 2, 3)), x, y, x + step, y + rng.choice((step, -step))))
-    return made + [(4, n, 0, 0, 0) for n in range(1, 5)]
+        made.append((rng.choice((1, 2, 3)), x, y, x + step, y + rng.choice((step, -step)), 0))
+    return made + [(4, n, 0, 0, 0, 0) for n in range(1, 5)]
 
 
 def chain(rng, most):
@@ -35,7 +35,7 @@ def chain(rng, most):
     x, y, made = 0, 0, []
     for _ in range(rng.randint(1, most)):
         dx, dy = rng.choice(((1, 0), (0, 1), (-1, 0), (2, 0), (1, 1), (-1, 1)))
-        made.append((rng.choice((1, 1, 1, 2)), x, y, x + dx, y + dy))
+        made.append((rng.choice((1, 1, 1, 2)), x, y, x + dx, y + dy, 0))
         x, y = x + dx, y + dy
     return made
 
@@ -48,11 +48,12 @@ def wide(rng, most):
     made = []
     for _ in range(rng.randint(2, most)):
         px, py, qx, qy = (beside(rng.choice((-1, 1))) for _ in range(4))
-        made.append((rng.choice((1, 2, 3, 3)), px, py, qx, qy if (px, py) != (qx, qy) else -qy))
-    return made + [(4, rng.randint(1, 4), 0, 0, 0)]
+        made.append((rng.choice((1, 2, 3, 3)), px, py, qx, qy if (px, py) != (qx, qy) else -qy, 0))
+    return made + [(4, rng.randint(1, 4), 0, 0, 0, 0)]
 
 
 def sheet(rng):
+    """With tags that are all 0, so that it can be stored."""
     which = rng.randrange(7)
     if which == 0:
         return objects(rng, 2, (1, 2, 3), 10)
@@ -69,35 +70,50 @@ def sheet(rng):
     return objects(rng, 40, (3, 4), 8)
 
 
+def tag(rng):
+    """Often that of a few layers, else any or the last."""
+    return rng.choice((0, rng.randint(0, 3), rng.randint(0, reference.LAST_TAG), reference.LAST_TAG))
+
+
+def tagged(rng, objects):
+    """The same objects with tags, on all of them or on one alone."""
+    chosen = rng.sample(range(len(objects)), rng.choice((len(objects), min(len(objects), 1))))
+    return [(*one[:-1], tag(rng)) if at in chosen else one for at, one in enumerate(objects)]
+
+
 def spoilt(rng, numbers):
     """One object made wrong, in one way or in two at once."""
     at, beyond = reference.WIDTH * rng.randrange(len(numbers) // reference.WIDTH), reference.REACH + 1
     for _ in range(rng.randint(1, 2)):
-        what = rng.randrange(4)
+        what = rng.randrange(5)
         if what == 0:
             numbers[at] = rng.choice((0, 5, -1, 2**63 - 1, -2**63))
         elif what == 1:
             numbers[at + rng.randint(1, 4)] = rng.choice((beyond, -beyond, beyond - 1, 1 - beyond, 2**63 - 1, -2**63))
         elif what == 2:
             numbers[at + 3:at + 5] = numbers[at + 1:at + 3]
-        else:
+        elif what == 3:
             numbers[at:at + 2] = [4, rng.choice((0, 1, 4, 5))]
+        else:
+            numbers[at + 5] = rng.choice((-1, reference.LAST_TAG + 1, 2**63 - 1, -2**63))
 
 
 def numbers(rng):
-    """The numbers of a sheet, one object after another, as a call takes them: often with wrong objects, a length that is no multiple of
-    five, or as many objects as may be and one more. The last one of so many has no kind: all pairs of them would take long to compare."""
-    made = [number for one in sheet(rng) for number in one]
+    """The numbers of a sheet, one object after another, as a call takes them: every other sheet with tags, often with wrong objects, a length
+    that is no multiple of six, or as many objects as may be and one more. The last one of so many has no kind: all pairs of them would take
+    long to compare."""
+    drawn = sheet(rng)
+    made = [number for one in (tagged(rng, drawn) if rng.randrange(2) else drawn) for number in one]
     which = rng.randrange(6)
     if which == 0 and rng.randrange(4) == 0:
-        made = (made or [4, 1, 0, 0, 0]) * (reference.MOST + 1)
+        made = (made or [4, 1, 0, 0, 0, 0]) * (reference.MOST + 1)
         del made[reference.WIDTH * rng.choice((reference.MOST, reference.MOST + 1)):]
         made[-reference.WIDTH] = 0
     if which <= 2 and made:
         for _ in range(rng.randint(1, 3)):
             spoilt(rng, made)
     if which in (0, 3) and rng.randrange(2):
-        made += [rng.choice((0, 1, 2, 5))] * rng.randint(1, 4)
+        made += [rng.choice((0, 1, 2, 5))] * rng.randint(1, reference.WIDTH - 1)
     return made
 
 

@@ -17,7 +17,7 @@
 
 /* ---- the library: its answers, and nothing else */
 
-struct object { int64_t kind, px, py, qx, qy; };
+struct object { int64_t kind, px, py, qx, qy, tag; };
 struct point { int64_t mx, nx, my, ny, w; };  /* x = (mx R + nx)/w, y = (my R + ny)/w */
 struct ends { int64_t refusal; struct point first, last; };
 struct answer { int64_t refusal, number; struct point at; };  /* a sign; or 0, 1, 2 for none, point, many, and the point */
@@ -33,6 +33,7 @@ enum { NONE, POINT, MANY };
 /* ---- the paper's limits */
 
 static const int64_t REACH = 2000;  /* of a given coordinate, either way */
+static const int64_t LAST_TAG = 2000000;  /* of an object, from 0 on; a piece has no tag, and no answer depends on it */
 static const int64_t WIDEST = 32000000, FAR = 64000000000;  /* of a standard point's w, and of its n, either way */
 static const int64_t NARROW = 4000, NEAR = 8000000;  /* the same of a point on the frame */
 
@@ -206,7 +207,7 @@ static void say_point(struct point p)
 
 static void say_object(struct object o)
 {
-    fprintf(stderr, " [%" PRId64 " %" PRId64 " %" PRId64 " %" PRId64 " %" PRId64 "]", o.kind, o.px, o.py, o.qx, o.qy);
+    fprintf(stderr, " [%" PRId64 " %" PRId64 " %" PRId64 " %" PRId64 " %" PRId64 " %" PRId64 "]", o.kind, o.px, o.py, o.qx, o.qy, o.tag);
 }
 
 static void say_refusal(int64_t refusal)
@@ -303,10 +304,10 @@ static int64_t coordinate(enum sheet s)
 
 static struct object any_object(enum sheet s)
 {
-    int64_t kind = any(SEGMENT, any(0, 3) ? LINE : SIDE);
-    if (kind == SIDE) return (struct object){SIDE, any(1, 4), 0, 0, 0};
+    int64_t kind = any(SEGMENT, any(0, 3) ? LINE : SIDE), tag = s == EXTREME ? any(0, 1) * LAST_TAG : any(0, LAST_TAG);
+    if (kind == SIDE) return (struct object){SIDE, any(1, 4), 0, 0, 0, tag};
     int64_t px = coordinate(s), py = coordinate(s), qx = coordinate(s), qy = coordinate(s);
-    return px == qx && py == qy ? any_object(s) : (struct object){kind, px, py, qx, qy};
+    return px == qx && py == qy ? any_object(s) : (struct object){kind, px, py, qx, qy, tag};
 }
 
 /* within `most` either way; of an extreme sheet 0 or at it */
@@ -366,9 +367,9 @@ static void hold_sheet(const struct object objects[OBJECTS], enum sheet s)
 static void hold_farthest(void)
 {
     static const struct object objects[OBJECTS] = {
-        {LINE, -2000, 2000, 2000, 1999}, {LINE, -2000, -1999, 1999, -2000},
-        {LINE, -2000, -2000, 2000, 1999}, {LINE, 1999, -2000, -2000, 2000},
-        {LINE, -2000, 1, 0, 2000}, {SIDE, 1, 0, 0, 0},
+        {LINE, -2000, 2000, 2000, 1999, 0}, {LINE, -2000, -1999, 1999, -2000, 0},
+        {LINE, -2000, -2000, 2000, 1999, 0}, {LINE, 1999, -2000, -2000, 2000, 0},
+        {LINE, -2000, 1, 0, 2000, 0}, {SIDE, 1, 0, 0, 0, 0},
     };
     hold_sheet(objects, EXTREME);
     hold_side(objects[OBJECTS - 1], (struct point){0, -FAR, 0, 0, 1});

@@ -6,3 +6,4 @@ pub mod Det
 pub mod Eight
 pub mod Handed
 pub mod Seen
+pub mod Tags

@@ -1,7 +1,7 @@
 -- "All pairs i < j, by i and then j, that share something. Each row is eight numbers: i, j, 1 for point or 2 for many, and the five
--- numbers (0 for many)."
+-- numbers (0 for many)."; and "a listing row ends with the tags of i and j (ten numbers)" (document 02).
 use mathlib.Core.Bool.{Bool, true, false, cond, _&&_}
-use mathlib.Core.List.{List, [], _∷_}
+use mathlib.Core.List.{List, [], _∷_, _++_}
 use Prim.Native.Nat.{ℕ, _+_}
 use lib.Dec.{ltb}
 use lib.IntN.{ℤ, pos}
@@ -33,9 +33,13 @@ shared many = pos 2 ∷ pos 0 ∷ pos 0 ∷ pos 0 ∷ pos 0 ∷ pos 0 ∷ []
 
 -- ---- the rows
 
+-- "the tags of i and j"
+abbrev pub tagsOf : List ℤ → ℕ → ℕ → List ℤ
+tagsOf l i j = objectAt l i .tag ∷ objectAt l j .tag ∷ []
+
 -- a pair that makes none has no row
 abbrev pub rowOf : List ℤ → ℕ → ℕ → List ℤ
-rowOf l i j = cond (makesRow l i j) (pos i ∷ pos j ∷ shared (meetingOf l i j)) []
+rowOf l i j = cond (makesRow l i j) (pos i ∷ pos j ∷ (shared (meetingOf l i j) ++ tagsOf l i j)) []
 
 -- the rows of object i with all later ones: j is i + 1, i + 2, ..
 abbrev pub rowsWith : List ℤ → ℕ → List ℤ

@@ -6,7 +6,7 @@
 -- Assumes nothing.
 use mathlib.Core.Path.{_≡_, refl, sym, ap, _∙_}
 use mathlib.Core.Bool.{Bool, true, false, cond}
-use mathlib.Core.List.{List, [], _∷_}
+use mathlib.Core.List.{List, [], _∷_, _++_}
 use Prim.Native.Nat.{ℕ, zero, suc, _+_, _-_, _*_, _≤_, _<_}
 use native.Mathlib.Nat.{mul-le-mul, le-mul-of-pos-right, mul-suc, suc-mul}
 use native.Mathlib.Numerals.{add-one}
@@ -23,28 +23,31 @@ use Rattle.sheet.specs.Limits.{most}
 use Rattle.sheet.specs.Points.{numbers}
 use Rattle.sheet.specs.Crossing.{Meeting, none, point, many}
 use Rattle.sheet.specs.Lists.{rowWidth, countOf}
-use Rattle.listing.specs.Rows.{meetingOf, isSome, makesRow, shared, rowOf, rowsWith, rowsOf, pairCount, sharingWith, sharing}
+use Rattle.listing.specs.Rows.{meetingOf, isSome, makesRow, shared, tagsOf, rowOf, rowsWith, rowsOf, pairCount, sharingWith, sharing}
 use Rattle.listing.specs.Pairs.{rowsBetween, Section, pairsOf}
 
 -- ---- one pair
 
-abbrev rowBy : ℕ → ℕ → Meeting → List ℤ
-rowBy i j m = cond (isSome m) (pos i ∷ pos j ∷ shared m) []
+abbrev rowBy : ℕ → ℕ → List ℤ → Meeting → List ℤ
+rowBy i j tags m = cond (isSome m) (pos i ∷ pos j ∷ (shared m ++ tags)) []
 
 module _ (l : List ℤ) (i j : ℕ) where
-  pub row-once : {e : Point} → point e ≡ meetingOf l i j → pos i ∷ pos j ∷ pos 1 ∷ numbers e ≡ rowOf l i j
-  row-once h = ap (rowBy i j) h
+  abbrev by : Meeting → List ℤ
+  by = rowBy i j (tagsOf l i j)
 
-  pub row-many : many ≡ meetingOf l i j → pos i ∷ pos j ∷ pos 2 ∷ pos 0 ∷ pos 0 ∷ pos 0 ∷ pos 0 ∷ pos 0 ∷ [] ≡ rowOf l i j
-  row-many h = ap (rowBy i j) h
+  pub row-once : {e : Point} → point e ≡ meetingOf l i j → pos i ∷ pos j ∷ pos 1 ∷ (numbers e ++ tagsOf l i j) ≡ rowOf l i j
+  row-once h = ap by h
+
+  pub row-many : many ≡ meetingOf l i j → pos i ∷ pos j ∷ pos 2 ∷ pos 0 ∷ pos 0 ∷ pos 0 ∷ pos 0 ∷ pos 0 ∷ tagsOf l i j ≡ rowOf l i j
+  row-many h = ap by h
 
   pub row-none : none ≡ meetingOf l i j → [] ≡ rowOf l i j
-  row-none h = ap (rowBy i j) h
+  row-none h = ap by h
 
   length-row : length (rowOf l i j) ≡ cond (makesRow l i j) 1 0 * rowWidth
   length-row = go (meetingOf l i j)
     where
-      go : (m : Meeting) → length (rowBy i j m) ≡ cond (isSome m) 1 0 * rowWidth
+      go : (m : Meeting) → length (by m) ≡ cond (isSome m) 1 0 * rowWidth
       go none = refl
       go (point e) = refl
       go many = refl

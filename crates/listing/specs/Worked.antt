@@ -1,5 +1,5 @@
--- Listings, worked out by document 01's words: its own example, the eight numbers of every kind of row, their order, and what is answered
--- where a call is refused. A definition that says something else is refused here, whatever the code does.
+-- Listings, worked out by document 01's words and document 02's: its own example, the ten numbers of every kind of row, their order, and what
+-- is answered where a call is refused. A definition that says something else is refused here, whatever the code does.
 use mathlib.Core.Path.{_≡_, refl}
 use mathlib.Core.List.{List, [], _∷_, _++_}
 use Prim.Native.Nat.{ℕ}
@@ -15,25 +15,26 @@ use Rattle.sheet.specs.Crossing.{stretches, withSide, withStretch, meeting, cro
 use Rattle.sheet.specs.Answers.{objectNumbers}
 use Rattle.sheet.specs.Lent.{filled}
 use Rattle.sheet.specs.Lists.{listRefusal}
+use Rattle.sheet.specs.Tags.{tagged}
 use Rattle.sheet.specs.Cases.{minus, object, segment, ray, line, side}
 use Rattle.whole.specs.InTurn.{inTurn}
 use Rattle.listing.specs.Rows.{meetingOf, rowsWith, rowsOf, sharingWith, sharing}
 use Rattle.listing.specs.Listing.{oneRefusal, listed}
 
--- a line from (0,0) toward (2,1), a segment from (0,2) to (2,0) and side 3
+-- a line from (0,0) toward (2,1), a segment from (0,2) to (2,0) and side 3, each with its tag
 abbrev objects : List ℤ
 objects =
-    pos 3 ∷ pos 0 ∷ pos 0 ∷ pos 2 ∷ pos 1
-    ∷ pos 1 ∷ pos 0 ∷ pos 2 ∷ pos 2 ∷ pos 0
-    ∷ pos 4 ∷ pos 3 ∷ pos 0 ∷ pos 0 ∷ pos 0 ∷ []
+    pos 3 ∷ pos 0 ∷ pos 0 ∷ pos 2 ∷ pos 1 ∷ pos 0
+    ∷ pos 1 ∷ pos 0 ∷ pos 2 ∷ pos 2 ∷ pos 0 ∷ pos 0
+    ∷ pos 4 ∷ pos 3 ∷ pos 0 ∷ pos 0 ∷ pos 0 ∷ pos 0 ∷ []
 
 pub record WorkedListing : Type 0 where
   not-refused : listRefusal objects ≡ pos 0
-  -- "0 1 point 0 4 0 2 3", "0 2 point 2 0 1 0 2"
+  -- "0 1 point 0 4 0 2 3", "0 2 point 2 0 1 0 2", each with its two tags
   two-rows :
       rowsOf objects
-      ≡ pos 0 ∷ pos 1 ∷ pos 1 ∷ pos 0 ∷ pos 4 ∷ pos 0 ∷ pos 2 ∷ pos 3
-      ∷ pos 0 ∷ pos 2 ∷ pos 1 ∷ pos 2 ∷ pos 0 ∷ pos 1 ∷ pos 0 ∷ pos 2 ∷ []
+      ≡ pos 0 ∷ pos 1 ∷ pos 1 ∷ pos 0 ∷ pos 4 ∷ pos 0 ∷ pos 2 ∷ pos 3 ∷ pos 0 ∷ pos 0
+      ∷ pos 0 ∷ pos 2 ∷ pos 1 ∷ pos 2 ∷ pos 0 ∷ pos 1 ∷ pos 0 ∷ pos 2 ∷ pos 0 ∷ pos 0 ∷ []
   -- "rows 2"
   two-pairs : sharing objects ≡ 2
 
@@ -47,18 +48,30 @@ worked-listing = record {
 
 -- ---- rows and answers
 
--- segments along one line, from (0,0) to (4,0) and back from (6,0) to (2,0), and a ray from (3,0) upward: every two share something
+-- segments along one line, from (0,0) to (4,0) and back from (6,0) to (2,0), and a ray from (3,0) upward, of three layers: every two share
+-- something
 abbrev three : List ℤ
 three =
-    objectNumbers (segment (pos 0) (pos 0) (pos 4) (pos 0)) ++ objectNumbers (segment (pos 6) (pos 0) (pos 2) (pos 0))
-    ++ objectNumbers (ray (pos 3) (pos 0) (pos 3) (pos 1))
+    objectNumbers (tagged (pos 7) (segment (pos 0) (pos 0) (pos 4) (pos 0)))
+    ++ objectNumbers (tagged (pos 2000000) (segment (pos 6) (pos 0) (pos 2) (pos 0)))
+    ++ objectNumbers (tagged (pos 8) (ray (pos 3) (pos 0) (pos 3) (pos 1)))
 
--- "i, j, 1 for point or 2 for many, and the five numbers (0 for many)"
-abbrev manyRow : List ℤ
-manyRow = pos 0 ∷ pos 1 ∷ pos 2 ∷ pos 0 ∷ pos 0 ∷ pos 0 ∷ pos 0 ∷ pos 0 ∷ []
+-- "i, j, 1 for point or 2 for many, and the five numbers (0 for many)", "the tags of i and j"
+abbrev manyRow : ℤ → ℤ → List ℤ
+manyRow t u = pos 0 ∷ pos 1 ∷ pos 2 ∷ pos 0 ∷ pos 0 ∷ pos 0 ∷ pos 0 ∷ pos 0 ∷ t ∷ u ∷ []
 
-abbrev pointRow : ℤ → ℤ → List ℤ
-pointRow i j = i ∷ j ∷ pos 1 ∷ pos 0 ∷ pos 3 ∷ pos 0 ∷ pos 0 ∷ pos 1 ∷ []
+abbrev pointRow : ℤ → ℤ → ℤ → ℤ → List ℤ
+pointRow i j t u = i ∷ j ∷ pos 1 ∷ pos 0 ∷ pos 3 ∷ pos 0 ∷ pos 0 ∷ pos 1 ∷ t ∷ u ∷ []
+
+-- its rows: of the first two, of the first with the third, of the second with the third
+abbrev one : List ℤ
+one = manyRow (pos 7) (pos 2000000)
+
+abbrev two : List ℤ
+two = pointRow (pos 0) (pos 2) (pos 7) (pos 8)
+
+abbrev last : List ℤ
+last = pointRow (pos 1) (pos 2) (pos 2000000) (pos 8)
 
 -- kind 5; and 2,001
 abbrev noKind : List ℤ
@@ -72,29 +85,29 @@ lent n = replicate n (pos 77)
 
 pub record WorkedListed : Type 0 where
   -- "All pairs i < j, by i and then j, that share something."
-  by-i-and-then-j : rowsOf three ≡ manyRow ++ pointRow (pos 0) (pos 2) ++ pointRow (pos 1) (pos 2)
-  many-row : rowsWith (objectNumbers (side (pos 4)) ++ objectNumbers (side (pos 4))) 0 ≡ manyRow
+  by-i-and-then-j : rowsOf three ≡ one ++ two ++ last
+  many-row : rowsWith (objectNumbers (side (pos 4)) ++ objectNumbers (side (pos 4))) 0 ≡ manyRow (pos 0) (pos 0)
   nothing-shared : (rowsOf (objectNumbers (side (pos 1)) ++ objectNumbers (side (pos 3))) ≡ []) × (rowsOf [] ≡ [])
   -- one object with all later ones
-  rows-of-one : (rowsWith three 0 ≡ manyRow ++ pointRow (pos 0) (pos 2)) × (rowsWith three 1 ≡ pointRow (pos 1) (pos 2)) × (rowsWith three 2 ≡ [])
+  rows-of-one : (rowsWith three 0 ≡ one ++ two) × (rowsWith three 1 ≡ last) × (rowsWith three 2 ≡ [])
   pairs : (sharing three ≡ 3) × (sharingWith three 0 ≡ 2) × (sharingWith three 1 ≡ 1) × (sharingWith three 2 ≡ 0)
   -- "A list: 14, 11, each object in turn, .. then 10."
   in-turn : (listRefusal (noKind ++ tooFar) ≡ pos 1) × (listRefusal (tooFar ++ noKind) ≡ pos 2)
-  eleven-before-objects : listRefusal (tooFar ++ lent 2560) ≡ pos 11
-  fourteen-before-eleven : listRefusal (tooFar ++ lent 2561) ≡ pos 14
+  eleven-before-objects : listRefusal (tooFar ++ lent 3072) ≡ pos 11
+  fourteen-before-eleven : listRefusal (tooFar ++ lent 3073) ≡ pos 14
   -- of one object: the list's own, then 13
   index : (oneRefusal three 2 ≡ pos 0) × (oneRefusal three 3 ≡ pos 13) × (oneRefusal (noKind ++ tooFar) 9 ≡ pos 1)
   -- the number, how many rows, and the length: "A refused call returns its number with every other number 0 .. Refusal 10 alone also
   -- returns the length needed."
-  room-for-all : listed (pos 0) 2 16 ≡ record { refusal = pos 0; rows = 2; length = 16 }
-  no-room : listed (pos 0) 2 15 ≡ record { refusal = pos 10; rows = 0; length = 16 }
+  room-for-all : listed (pos 0) 2 20 ≡ record { refusal = pos 0; rows = 2; length = 20 }
+  no-room : listed (pos 0) 2 19 ≡ record { refusal = pos 10; rows = 0; length = 20 }
   own-before-ten :
-      (listed (pos 14) 2 15 ≡ record { refusal = pos 14; rows = 0; length = 0 })
+      (listed (pos 14) 2 19 ≡ record { refusal = pos 14; rows = 0; length = 0 })
       × (listed (pos 1) 2 99 ≡ record { refusal = pos 1; rows = 0; length = 0 })
   no-rows : listed (pos 0) 0 0 ≡ record { refusal = pos 0; rows = 0; length = 0 }
   -- "Rows stand at the front of the lent list."
-  at-the-front : filled (listRefusal three) (rowsOf three) (lent 26) ≡ rowsOf three ++ lent 2
-  unchanged : (filled (listRefusal three) (rowsOf three) (lent 23) ≡ lent 23) × (filled (listRefusal tooFar) (rowsOf tooFar) (lent 26) ≡ lent 26)
+  at-the-front : filled (listRefusal three) (rowsOf three) (lent 32) ≡ rowsOf three ++ lent 2
+  unchanged : (filled (listRefusal three) (rowsOf three) (lent 29) ≡ lent 29) × (filled (listRefusal tooFar) (rowsOf tooFar) (lent 32) ≡ lent 32)
 
 pub worked-listed : WorkedListed
 unfolding inTurn listRefusal meetingOf pairRefusal sideRefusal objectRefusal stretches withSide withStretch meeting crossingOf sgn steps gcd gcdOf sideOf figureOf divided farRaw farEnd

@@ -1,4 +1,4 @@
-// The listing: a list of objects in, the rows of the pairs that share something out. A list is numbers, five an object.
+// The listing: a list of objects in, the rows of the pairs that share something out. A list is numbers, six an object.
 mod pairs; // pairs.rt: which pairs, in which order, and whether their rows have room
 mod rows; // rows.rt: what two objects share, and the row that tells it
 

@@ -24,7 +24,7 @@ fn meet(a: Object, b: Object) -> Crossing
     kernel::crossing::cross(a, b)
 }
 
-// A row at a place of the lent list, the only place that makes one. Gives the place behind it.
+// A row at a place of the lent list, the only place that makes one; ti and tj are the tags of i and j. Gives the place behind it.
 fn write_row(
     out: &mut [i64],
     at: usize,
@@ -36,13 +36,15 @@ fn write_row(
     my: i64,
     ny: i64,
     w: i64,
+    ti: i64,
+    tj: i64,
 ) -> usize
     requires { ⌜ (i < most) × (j < most) ⌝ }
-    ensures { λ r. ⌜ Wrote (now (out .entry)) (now (out .exit)) at r (pos i ∷ pos j ∷ how ∷ mx ∷ nx ∷ my ∷ ny ∷ w ∷ []) ⌝ }
+    ensures { λ r. ⌜ Wrote (now (out .entry)) (now (out .exit)) at r (pos i ∷ pos j ∷ how ∷ mx ∷ nx ∷ my ∷ ny ∷ w ∷ ti ∷ tj ∷ []) ⌝ }
 {
     let first = i as i64;
     let second = j as i64;
-    let row = [first, second, how, mx, nx, my, ny, w];
+    let row = [first, second, how, mx, nx, my, ny, w, ti, tj];
     put_numbers(&row, out, at)
 }
 
@@ -62,10 +64,10 @@ pub(crate) fn put_row(
     let b = object_at(list, j);
     match meet(a, b) {
         Crossing::Once(p) => {
-            return write_row(out, at, i, j, 1, p.mx, p.nx, p.my, p.ny, p.w);
+            return write_row(out, at, i, j, 1, p.mx, p.nx, p.my, p.ny, p.w, a.tag, b.tag);
         }
         Crossing::Many => {
-            return write_row(out, at, i, j, 2, 0, 0, 0, 0, 0);
+            return write_row(out, at, i, j, 2, 0, 0, 0, 0, 0, a.tag, b.tag);
         }
         Crossing::Nothing => {
             return at;

@@ -77,12 +77,12 @@ use Rattle.spot.proofs.silvanelga_spot_side.Reads as spot-side
 use Rattle.spot.proofs.silvanelga_spot_cross.Reads as spot-cross
 use Rattle.spot.proofs.silvanelga_spot_circle.Reads as spot-circle
 
--- four or five numbers, as a call takes them
-abbrev pub Four : Type 0
-Four = ℤ × (ℤ × (ℤ × (ℤ × Unit {0})))
+-- two or five numbers, as a call takes them
+abbrev pub Two : Type 0
+Two = ℤ × (ℤ × Unit {0})
 
 abbrev pub Five : Type 0
-Five = ℤ × Four
+Five = ℤ × (ℤ × (ℤ × Two))
 
 -- "-1, 0, 1, or 100 plus the refusal": what an answer of silvanelga_side refuses by; a number that is none of these counts as it is
 abbrev pub sideRefusalIn : ℤ → ℤ
@@ -90,10 +90,10 @@ sideRefusalIn r = cond (ltZ (pos 100) r) (r -ℤ pos 100) (cond (within (pos 1) 
 
 pub record Calls (P : ℤ → Type 0) : Type 0 where
   -- sheet: objects made, objects and lists checked
-  pub of-segment : (κs : Lfts 0) (a : Four) (r : Made) → segment.Post κs a r a → P (refusalIn (madeSays r))
-  pub of-ray : (κs : Lfts 0) (a : Four) (r : Made) → ray.Post κs a r a → P (refusalIn (madeSays r))
-  pub of-line : (κs : Lfts 0) (a : Four) (r : Made) → line.Post κs a r a → P (refusalIn (madeSays r))
-  pub of-side : (κs : Lfts 0) (n : ℤ) (r : Made) → side.Post κs (n, tt) r (n, tt) → P (refusalIn (madeSays r))
+  pub of-segment : (κs : Lfts 0) (a : Five) (r : Made) → segment.Post κs a r a → P (refusalIn (madeSays r))
+  pub of-ray : (κs : Lfts 0) (a : Five) (r : Made) → ray.Post κs a r a → P (refusalIn (madeSays r))
+  pub of-line : (κs : Lfts 0) (a : Five) (r : Made) → line.Post κs a r a → P (refusalIn (madeSays r))
+  pub of-side : (κs : Lfts 0) (a : Two) (r : Made) → side.Post κs a r a → P (refusalIn (madeSays r))
   pub of-object-refusal : (κs : Lfts 0) (o : Object) (r : ℤ) → object-refusal.Post κs (o, tt) r (o, tt) → P r
   pub of-list-refusal : (κs : Lfts 1) (l : RefT (List ℤ)) (r : ℤ) → list-refusal.Post κs (l, tt) r (l, tt) → P r
   -- kernel: checks, ends, signs, crossing

@@ -22,10 +22,10 @@ use Rattle.sheet.specs.declared.Object.{Object}
 use Rattle.sheet.specs.declared.Point.{Point}
 use Rattle.sheet.specs.declared.Crossing.the-variants as crossing
 use Rattle.sheet.specs.RefusalTable.{refusals, among, Known}
-use Rattle.sheet.specs.RefusalTableLaws.{one-of, one-among, not-one, known-or, known-pair, known-side, known-object, known-point, known-order, known-turn, known-side-sign, known-circle, known-crossing, known-list, known-index, known-room, refusal-in}
+use Rattle.sheet.specs.RefusalTableLaws.{one-of, one-among, not-one, known-or, known-object, known-point, known-order, known-turn, known-side-sign, known-circle, known-crossing, known-list, known-index, known-room, refusal-in}
 use Rattle.sheet.specs.Points.{standard, pointRefusal}
 use Rattle.whole.specs.Choice.{orElse}
-use Rattle.sheet.specs.Lists.{rowWidth, listRefusal, indexRefusal}
+use Rattle.sheet.specs.Lists.{rowWidth, countOf, listRefusal, indexRefusal}
 use Rattle.sheet.specs.Answers.{answer, refusalIn, meetingNumbers}
 use Rattle.sheet.specs.AnswersLaws.{accepted, met-by}
 use Rattle.sheet.specs.AcceptsLaws.{cross-taken}
@@ -38,7 +38,7 @@ use Rattle.store.specs.declared.Stepped.{Stepped}
 use Rattle.store.specs.declared.Taken.{Taken}
 use Rattle.store.specs.declared.Written.{Written}
 use Rattle.store.specs.Refusals.{ofBytes}
-use Rattle.store.specs.Stored.{plain, readDrawing, writeDrawing}
+use Rattle.store.specs.Stored.{plain, readDrawing, writeDrawing, allUntagged, tagsRefusal, writeRefusal}
 use Rattle.number.specs.declared.Number.{Number}
 use Rattle.number.specs.Number.{Reading, readNumber, numberOf}
 use Rattle.store.specs.SureLaws.{Sure, Any, sure-number, sure-object, sure-count}
@@ -108,9 +108,14 @@ known-read : {z : ℤ} (bs : List ℕ) (lent : RefT (List ℤ)) → z ≡ readAn
 unfolding readAnswer
 known-read bs lent e = known-lent _ (short lent (length (readDrawing bs .objects))) (known-bytes bs) e
 
+known-write : (l : List ℤ) → Known (writeRefusal l)
+unfolding writeRefusal
+known-write l =
+    known-or (listRefusal l) (tagsRefusal l) (known-list l) (cond-by Known (allUntagged l (countOf l)) (λ e. one-of 0 refl) (λ e. one-of 16 refl))
+
 known-written : {z : ℤ} (l : List ℤ) (lent : RefT (List ℕ)) → z ≡ writeAnswer l (lent .now) .refusal → Known z
 unfolding writeAnswer
-known-written l lent e = known-lent _ (short lent (length (writeDrawing l))) (known-list l) e
+known-written l lent e = known-lent _ (short lent (length (writeDrawing l))) (known-write l) e
 
 number-known : (bs : List ℕ) → Known (numberOf bs (readNumber bs) .refusal)
 number-known bs = go (sure-number bs)
@@ -171,10 +176,10 @@ side-known bs i x y = go (side-answers bs i x y)
 
 calls : (P : ℤ → Type 0) → ((z : ℤ) → Known z → P z) → Calls P
 calls P f = record {
-  of-segment = λ κs a r e. f _ (known-answer _ _ (known-pair _ _ _ _) e);
-  of-ray = λ κs a r e. f _ (known-answer _ _ (known-pair _ _ _ _) e);
-  of-line = λ κs a r e. f _ (known-answer _ _ (known-pair _ _ _ _) e);
-  of-side = λ κs n r e. f _ (known-answer _ _ (known-side n (pos 0) (pos 0) (pos 0)) e);
+  of-segment = λ κs a r e. f _ (known-answer _ _ (known-object _) e);
+  of-ray = λ κs a r e. f _ (known-answer _ _ (known-object _) e);
+  of-line = λ κs a r e. f _ (known-answer _ _ (known-object _) e);
+  of-side = λ κs a r e. f _ (known-answer _ _ (known-object _) e);
   of-object-refusal = λ κs o r e. f _ (subst Known (sym (e .0)) (known-object o));
   of-list-refusal = λ κs l r e. f _ (subst Known (sym e) (known-list (l .now)));
   of-check-point = λ κs p r e. f _ (subst Known (sym e) (known-point p));

@@ -1,5 +1,5 @@
 -- Every number of the table is given, each by an example: what the contracts name (a crossing's refusal, a turn's, a side of circle's, that of
--- one object's rows, of reading into a lent list) computed on it. And what the answers of silvanelga_side refuse by.
+-- one object's rows, of reading into a lent list, of writing into lent bytes) computed on it. And what the answers of silvanelga_side refuse by.
 use mathlib.Core.Path.{_≡_, refl}
 use mathlib.Core.List.{List, [], _∷_}
 use Prim.Native.Nat.{ℕ}
@@ -18,10 +18,11 @@ use Rattle.sheet.specs.Circle.{isGiven, givenRefusal, circleRefusal}
 use Rattle.sheet.specs.Crossing.{crossingRefusal}
 use Rattle.sheet.specs.Answers.{objectNumbers}
 use Rattle.sheet.specs.Lists.{listRefusal}
+use Rattle.sheet.specs.Tags.{tagged}
 use Rattle.sheet.specs.Cases.{minus, object, segment, side, point, at}
-use Rattle.store.specs.Stored.{readCoordinate, readPoint, readSide, readTo, readPair, readShape, readObject, readObjects, readCount, readDrawing}
+use Rattle.store.specs.Stored.{readCoordinate, readPoint, readSide, readTo, readPair, readShape, readObject, readObjects, readCount, readDrawing, writeRefusal}
 use Rattle.number.specs.Number.{readGroups}
-use Rattle.store.specs.Answers.{readAnswer}
+use Rattle.store.specs.Answers.{readAnswer, writeAnswer}
 use Rattle.listing.specs.Listing.{oneRefusal}
 use Rattle.refusals.specs.Calls.{sideRefusalIn}
 
@@ -31,6 +32,7 @@ pub data Met (n : ℕ) : Type 0 where
   by-circle : (p q s u : Point) → circleRefusal p q s u ≡ pos n → Met n
   by-rows : (l : List ℤ) (i : ℕ) → oneRefusal l i ≡ pos n → Met n
   by-reading : (bytes : List ℕ) (lent : List ℤ) → readAnswer (readDrawing bytes) lent .refusal ≡ pos n → Met n
+  by-writing : (l : List ℤ) (lent : List ℕ) → writeAnswer l lent .refusal ≡ pos n → Met n
 
 pub data EachMet : List ℕ → Type 0 where
   none : EachMet []
@@ -43,7 +45,7 @@ abbrev origin : Point
 origin = at (pos 0) (pos 0)
 
 pub each-met : EachMet refusals
-unfolding sgn steps gcd gcdOf pairRefusal sideRefusal objectRefusal standard narrow frame isPoint pointRefusal turnRefusal isGiven givenRefusal circleRefusal crossingRefusal inTurn listRefusal readGroups readCoordinate readPoint readSide readTo readPair readShape readObject readObjects readCount readDrawing readAnswer
+unfolding sgn steps gcd gcdOf pairRefusal sideRefusal objectRefusal standard narrow frame isPoint pointRefusal turnRefusal isGiven givenRefusal circleRefusal crossingRefusal inTurn listRefusal readGroups readCoordinate readPoint readSide readTo readPair readShape readObject readObjects readCount readDrawing readAnswer writeRefusal writeAnswer
 each-met =
     more (by-crossing (object (pos 5) (pos 0) (pos 0) (pos 1) (pos 1)) fine refl)
     (more (by-crossing fine (segment (pos 0) (pos 0) (pos 2001) (pos 1)) refl)
@@ -55,10 +57,12 @@ each-met =
     (more (by-reading (128 ∷ 0 ∷ []) [] refl)
     (more (by-reading (0 ∷ 0 ∷ []) [] refl)
     (more (by-reading (1 ∷ 4 ∷ 1 ∷ []) [] refl)
-    (more (by-rows (replicate 2565 (pos 0)) 0 refl)
+    (more (by-rows (replicate 3078 (pos 0)) 0 refl)
     (more (by-rows (objectNumbers fine) 1 refl)
     (more (by-rows (pos 4 ∷ []) 0 refl)
-    (more (by-circle (at (pos 2001) (pos 0)) origin origin origin refl) none)))))))))))))
+    (more (by-crossing fine (tagged (pos 2000001) fine) refl)
+    (more (by-writing (objectNumbers (tagged (pos 1) fine)) [] refl)
+    (more (by-circle (at (pos 2001) (pos 0)) origin origin origin refl) none)))))))))))))))
 
 pub record WorkedSide : Type 0 where
   -- "-1, 0, 1, or 100 plus the refusal"

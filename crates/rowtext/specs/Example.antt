@@ -1,4 +1,4 @@
--- The listing that document 01 prints whole, proved of the definitions; and what is answered where text does not fit, or is of no rows.
+-- The listing that document 01 prints whole, with the tags that document 02 adds, proved of the definitions; and what is answered where text does not fit, or is of no rows.
 use mathlib.Core.Path.{_≡_, refl}
 use mathlib.Core.List.{List, [], _∷_, _++_}
 use Prim.Native.Nat.{ℕ}
@@ -10,16 +10,20 @@ use Rattle.rowtext.specs.Text.{rowText, rowsTo, rowsText, objectsWord, r
 use Rattle.rowtext.specs.Put.{rowsRefusal, putAnswer}
 
 rowOne : List ℤ
-rowOne = pos 0 ∷ pos 1 ∷ pos 1 ∷ pos 0 ∷ pos 4 ∷ pos 0 ∷ pos 2 ∷ pos 3 ∷ []
+rowOne = pos 0 ∷ pos 1 ∷ pos 1 ∷ pos 0 ∷ pos 4 ∷ pos 0 ∷ pos 2 ∷ pos 3 ∷ pos 0 ∷ pos 0 ∷ []
 
 rowTwo : List ℤ
-rowTwo = pos 0 ∷ pos 2 ∷ pos 1 ∷ pos 2 ∷ pos 0 ∷ pos 1 ∷ pos 0 ∷ pos 2 ∷ []
+rowTwo = pos 0 ∷ pos 2 ∷ pos 1 ∷ pos 2 ∷ pos 0 ∷ pos 1 ∷ pos 0 ∷ pos 2 ∷ pos 0 ∷ pos 0 ∷ []
+
+-- of objects 3 and 4, which have tags 7 and 12
+rowTagged : List ℤ
+rowTagged = pos 3 ∷ pos 4 ∷ pos 1 ∷ pos 0 ∷ pos 5 ∷ pos 0 ∷ pos 6 ∷ pos 1 ∷ pos 7 ∷ pos 12 ∷ []
 
 textOne : List ℕ
-textOne = ascii "0 1 point 0 4 0 2 3\n"
+textOne = ascii "0 1 point 0 4 0 2 3 0 0\n"
 
 textTwo : List ℕ
-textTwo = ascii "0 2 point 2 0 1 0 2\n"
+textTwo = ascii "0 2 point 2 0 1 0 2 0 0\n"
 
 -- the bytes of `rows 2`; lent bytes
 abbrev line : List ℕ
@@ -35,9 +39,10 @@ pub record Example : Type 0 where
   first : countLine objectsWord (pos 3) ≡ ascii "objects 3\n"
   last : countLine rowsWord (pos 2) ≡ ascii "rows 2\n"
   refused : countLine refusedWord (pos 14) ≡ ascii "refused 14\n"
-  many : rowText (pos 3 ∷ pos 4 ∷ pos 2 ∷ pos 0 ∷ pos 0 ∷ pos 0 ∷ pos 0 ∷ pos 0 ∷ []) ≡ ascii "3 4 many\n"
+  many : rowText (pos 0 ∷ pos 1 ∷ pos 2 ∷ pos 0 ∷ pos 0 ∷ pos 0 ∷ pos 0 ∷ pos 0 ∷ pos 7 ∷ pos 0 ∷ []) ≡ ascii "0 1 many 7 0\n"
+  tags-last : rowText rowTagged ≡ ascii "3 4 point 0 5 0 6 1 7 12\n"
   none : (rowsText [] ≡ []) × (countLine rowsWord (pos 0) ≡ ascii "rows 0\n")
-  -- "14: list length not a multiple of" eight, "then 10", which "alone also returns the length needed"
+  -- "14: list length not a multiple of" ten, "then 10", which "alone also returns the length needed"
   no-rows : (rowsRefusal rowOne ≡ pos 0) × (rowsRefusal (pos 0 ∷ rowOne) ≡ pos 14) × (rowsRefusal (rowOne ++ rowTwo) ≡ pos 0)
   room : putAnswer (pos 0) line (lent 7) ≡ record { refusal = pos 0; length = 7 }
   no-room : putAnswer (pos 0) line (lent 6) ≡ record { refusal = pos 10; length = 7 }
@@ -46,7 +51,7 @@ pub record Example : Type 0 where
   bytes : (filled (pos 0) line (lent 9) ≡ line ++ lent 2) × (filled (pos 0) line (lent 6) ≡ lent 6) × (filled (pos 14) line (lent 9) ≡ lent 9)
 
 pub example : Example
-unfolding digitsTo digits numbers rowText rowsTo rowsText rowOne rowTwo textOne textTwo clipped
+unfolding digitsTo digits numbers rowText rowsTo rowsText rowOne rowTwo rowTagged textOne textTwo clipped
 example = record {
   one = refl;
   two = refl;
@@ -55,6 +60,7 @@ example = record {
   last = refl;
   refused = refl;
   many = refl;
+  tags-last = refl;
   none = (refl, refl);
   no-rows = (refl, refl, refl);
   room = refl;

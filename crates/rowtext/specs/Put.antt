@@ -21,9 +21,9 @@ putAnswer n text lent = record { refusal = roomRefusal n (length text) (length l
 
 -- ---- how long rows and lines can be
 
--- i and j, the blank and the word `point`, five numbers, the newline: 153 bytes, and no row is longer (`row-short`)
+-- i and j, the blank and the word `point`, five numbers, two tags, the newline: 195 bytes, and no row is longer (`row-short`)
 abbrev pub rowMost : ℕ
-rowMost = numberMost + fieldMost + 6 + 5 * fieldMost + 1
+rowMost = numberMost + fieldMost + 6 + 5 * fieldMost + 2 * fieldMost + 1
 
 -- a word of seven letters, a number behind a blank, the newline (`line-short`)
 abbrev pub lineMost : ℕ

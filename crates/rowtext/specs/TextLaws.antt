@@ -14,7 +14,7 @@ use lib.IntN.{ℤ, pos}
 use lib.ListN.{length, take, drop, getD, length-append}
 use Rattle.whole.specs.Flag.{eqZ}
 use Rattle.whole.specs.Tests.{eq-eqZ, ne-eqZ}
-use Rattle.sheet.specs.Lists.{rowWidth}
+use Rattle.sheet.specs.Lists.{shareWidth, rowWidth}
 use Rattle.decimal.specs.Decimal.{newline, blank, sized, numbers, fieldMost}
 use Rattle.decimal.specs.DecimalLaws.{signed-short, signed-pos, AllFit, fits-drop, fits-take, numbers-short}
 use Rattle.rowtext.specs.Text.{pointWord, manyWord, sharedText, rowAt, rowText, rowsTo, countLine}
@@ -47,6 +47,7 @@ row-short {r} f =
     let i = signed-short (getD r 0 (pos 0)) (f .fit 0) in
     let j = numbers-short 1 (fits-drop 1 f) in
     let shared = shared-short f in
+    let tags = numbers-short 2 (fits-drop shareWidth f) in
     simp length-append (omega arith)
 
 pub rows-short : (l : List ℤ) (k : ℕ) → AllFit l → length (rowsTo l k) ≤ k * rowMost

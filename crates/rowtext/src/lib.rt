@@ -31,7 +31,7 @@ pub struct Put {
 }
 
 // The most bytes that the text of a row takes, whatever its numbers are.
-pub const ROW_MOST: usize = 153;
+pub const ROW_MOST: usize = 195;
 // The most bytes that a line of a word and a number takes.
 pub const LINE_MOST: usize = 29;
 
@@ -56,7 +56,8 @@ fn put_row(row: &[i64], out: &mut [u8], at: usize) -> usize
     let first = put_number(i, out, at);
     let second = put_fields(&row[1..2], out, first);
     let shared = put_shared(row, out, second);
-    put_byte(b'\n', out, shared)
+    let tags = put_fields(&row[SHARE_WIDTH..ROW_WIDTH], out, shared);
+    put_byte(b'\n', out, tags)
 }
 
 fn put_all(list: &[i64], rows: usize, out: &mut [u8]) -> usize

@@ -119,7 +119,7 @@ fn box_around(list: &[i64]) -> SheetBox
     around(low_x, low_y, high_x, high_y)
 }
 
-// The box of all objects of a list, five numbers each.
+// The box of all objects of a list, six numbers each.
 pub fn box_of(list: &[i64]) -> Boxed
     ensures { λ r. ⌜ boxedSays r ≡ floatAnswer (listRefusal (now (list .entry))) (boxSays (boxOf (endsOf (now (list .entry))))) ⌝ }
 {

@@ -24,23 +24,23 @@ use Rattle.sheet.proofs.lent.behind.Reads as behind
 use Rattle.sheet.proofs.lent.put_byte.Reads as put-byte
 use Rattle.sheet.proofs.lent.put_numbers.Reads as put-numbers
 
-abbrev Four : Type 0
-Four = ℤ × (ℤ × (ℤ × (ℤ × Unit {0})))
+abbrev Five : Type 0
+Five = ℤ × (ℤ × (ℤ × (ℤ × (ℤ × Unit {0}))))
 
-pub segment-answer : (κs : Lfts 0) (a : Four) (r s : Made) → segment.Post κs a r a → segment.Post κs a s a → r ≡ s
+pub segment-answer : (κs : Lfts 0) (a : Five) (r s : Made) → segment.Post κs a r a → segment.Post κs a s a → r ≡ s
 segment-answer κs a r s p q = made-one r s (p ∙ sym q)
 
-pub ray-answer : (κs : Lfts 0) (a : Four) (r s : Made) → ray.Post κs a r a → ray.Post κs a s a → r ≡ s
+pub ray-answer : (κs : Lfts 0) (a : Five) (r s : Made) → ray.Post κs a r a → ray.Post κs a s a → r ≡ s
 ray-answer κs a r s p q = made-one r s (p ∙ sym q)
 
-pub line-answer : (κs : Lfts 0) (a : Four) (r s : Made) → line.Post κs a r a → line.Post κs a s a → r ≡ s
+pub line-answer : (κs : Lfts 0) (a : Five) (r s : Made) → line.Post κs a r a → line.Post κs a s a → r ≡ s
 line-answer κs a r s p q = made-one r s (p ∙ sym q)
-
-pub side-answer : (κs : Lfts 0) (n : ℤ) (r s : Made) → side.Post κs (n, tt) r (n, tt) → side.Post κs (n, tt) s (n, tt) → r ≡ s
-side-answer κs n r s p q = made-one r s (p ∙ sym q)
 
 abbrev Two : Type 0
 Two = ℤ × (ℤ × Unit {0})
+
+pub side-answer : (κs : Lfts 0) (a : Two) (r s : Made) → side.Post κs a r a → side.Post κs a s a → r ≡ s
+side-answer κs a r s p q = made-one r s (p ∙ sym q)
 
 pub given-answer : (κs : Lfts 0) (a : Two) (r s : Point) → given.Post κs a r a → given.Post κs a s a → r ≡ s
 given-answer κs a r s p q = p ∙ sym q

@@ -13,6 +13,7 @@ use Rattle.sheet.specs.declared.Signed.{Signed}
 use Rattle.sheet.specs.declared.Signed.the-variants as signed
 use Rattle.sheet.specs.declared.Crossing.{Crossing}
 use Rattle.sheet.specs.declared.Crossing.the-variants as crossing
+use Rattle.sheet.specs.Refusal.{objectRefusal}
 use Rattle.sheet.specs.Points.{numbers}
 use Rattle.sheet.specs.Lists.{number}
 use Rattle.sheet.specs.Crossing.{Meeting, none, point, many}
@@ -26,11 +27,17 @@ abbrev pub answer : ℤ → List ℤ → List ℤ
 answer n values = cond (eqZ n (pos 0)) (pos 0 ∷ values) (n ∷ [])
 
 abbrev pub objectNumbers : Object → List ℤ
-objectNumbers o = o .kind ∷ o .px ∷ o .py ∷ o .qx ∷ o .qy ∷ []
+objectNumbers o = o .kind ∷ o .px ∷ o .py ∷ o .qx ∷ o .qy ∷ o .tag ∷ []
 
 abbrev pub madeSays : Made → List ℤ
 madeSays (made.Done o) = pos 0 ∷ objectNumbers o
 madeSays (made.Refused n) = n ∷ []
+
+-- what a maker says: the object of these numbers, or its refusal
+abbrev pub makes : ℤ → ℤ → ℤ → ℤ → ℤ → ℤ → List ℤ
+makes kind px py qx qy tag =
+    let o : Object = record { kind = kind; px = px; py = py; qx = qx; qy = qy; tag = tag } in
+    answer (objectRefusal o) (objectNumbers o)
 
 abbrev pub endsSay : Ends → List ℤ
 endsSay (ends.Both p q) = pos 0 ∷ (numbers p ++ numbers q)

@@ -4,7 +4,7 @@
 --   by-answer                   what holds of both things that an answer may be, each where its number says so, holds of the answer
 --   not-refused                 a refusal is 0 where the code's test of a call's result finds 0
 --   refused-first, refused-next   the first that finds something, from the code's test; what comes after one that finds nothing
---   object-one, point-one       no two objects, and no two points, have the same five numbers
+--   object-one, point-one       no two objects, and no two points, have the same numbers
 --   made-one, ends-one, signed-one, crossing-one   no two values of an answer say the same numbers
 --   crossing-says               what two objects share as it is answered
 --   crossing-met, met-by        an answer as what they share; and back
@@ -80,7 +80,8 @@ object-one a b e =
     let e3 : a .py ≡ b .py = cc in
     let e4 : a .qx ≡ b .qx = cc in
     let e5 : a .qy ≡ b .qy = cc in
-    λ i. record { kind = e1 i; px = e2 i; py = e3 i; qx = e4 i; qy = e5 i }
+    let e6 : a .tag ≡ b .tag = cc in
+    λ i. record { kind = e1 i; px = e2 i; py = e3 i; qx = e4 i; qy = e5 i; tag = e6 i }
 
 pub point-one : (a b : Point) → numbers a ≡ numbers b → a ≡ b
 point-one a b e =

@@ -8,8 +8,9 @@ use Rattle.sheet.specs.declared.Point.{Point}
 abbrev pub minus : ℕ → ℤ
 minus n = negℤ (pos n)
 
+-- of tag 0; any other tag is given by `tagged` (Tags)
 abbrev pub object : ℤ → ℤ → ℤ → ℤ → ℤ → Object
-object kind px py qx qy = record { kind = kind; px = px; py = py; qx = qx; qy = qy }
+object kind px py qx qy = record { kind = kind; px = px; py = py; qx = qx; qy = qy; tag = pos 0 }
 
 abbrev pub segment : ℤ → ℤ → ℤ → ℤ → Object
 segment px py qx qy = object (pos 1) px py qx qy

@@ -1,4 +1,4 @@
--- What the five numbers of an object mean: a segment, a ray or a line by two given points, or a side of the frame.
+-- What the first five numbers of an object mean: a segment, a ray or a line by two given points, or a side of the frame.
 use mathlib.Core.Bool.{cond}
 use lib.IntN.{ℤ, pos, negsuc, _-ℤ_}
 use Rattle.whole.specs.Flag.{eqZ}

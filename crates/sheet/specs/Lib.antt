@@ -12,6 +12,7 @@ pub mod Crossing
 pub mod Lists
 pub mod Lent
 pub mod Answers
+pub mod Tags
 -- worked on them
 pub mod Cases
 pub mod WorkedObjects
@@ -32,6 +33,7 @@ pub mod Flags
 pub mod RefusalLaws
 pub mod PointsLaws
 pub mod AcceptsLaws
+pub mod TagLaws
 -- laws: ends
 pub mod EndsLaws
 -- laws: signs

@@ -1,4 +1,5 @@
--- The limits of document 01, each named once. REACH and MOST are the object type's own, and contracts tie them to these by a bracket.
+-- The limits of document 01 and of document 02, each named once. REACH, MOST and LAST_TAG are the object type's own, and contracts tie them to
+-- these by a bracket.
 use Prim.Native.Nat.{ℕ}
 use lib.IntN.{ℤ, pos}
 
@@ -12,6 +13,10 @@ reach = pos reachSize
 -- "A sheet has 0 to 512 objects"
 abbrev pub most : ℕ
 most = 512
+
+-- "a tag from 0 to 2,000,000" (document 02)
+abbrev pub lastTag : ℤ
+lastTag = pos 2000000
 
 -- "Standard: .. w at most 32,000,000, nx and ny within 64,000,000,000 either way"
 abbrev pub standardWSize : ℕ

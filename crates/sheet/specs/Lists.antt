@@ -1,4 +1,5 @@
--- Lists of objects: "Objects, each of five whole numbers: kind, px, py, qx, qy", one object after another. Which lists are refused.
+-- Lists of objects: "Objects, each of five whole numbers: kind, px, py, qx, qy"; "Each object gets a sixth number, a tag" (document 02). One
+-- object after another. Which lists are refused.
 use mathlib.Core.Bool.{cond}
 use mathlib.Core.List.{List}
 use Prim.Native.Nat.{ℕ, zero, suc, _+_, _*_, _/_, _%_}
@@ -11,16 +12,17 @@ use Rattle.sheet.specs.Refusal.{objectRefusal}
 use Rattle.whole.specs.Choice.{orElse}
 use Rattle.whole.specs.InTurn.{inTurn}
 
--- "each of five whole numbers": the numbers of an object in a list
+-- "Lists are then of six numbers an object": the numbers of an object in a list
 abbrev pub width : ℕ
-width = 5
+width = 6
 
--- "Each row is eight numbers": those that say what a pair shares, and all of a row of a listing
+-- "Each row is eight numbers": those that say what a pair shares; and all of a row of a listing, which "ends with the tags of i and j (ten
+-- numbers)" (document 02)
 abbrev pub shareWidth : ℕ
 shareWidth = 8
 
 abbrev pub rowWidth : ℕ
-rowWidth = shareWidth
+rowWidth = shareWidth + 2
 
 abbrev pub countOf : List ℤ → ℕ
 countOf l = length l / width
@@ -37,6 +39,7 @@ objectFrom l at = record {
   py = number l (at + 2);
   qx = number l (at + 3);
   qy = number l (at + 4);
+  tag = number l (at + 5);
 }
 
 -- object i of a list

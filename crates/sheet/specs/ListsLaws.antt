@@ -100,6 +100,7 @@ object-drop l at k =
       py = further 2 i;
       qx = further 3 i;
       qy = further 4 i;
+      tag = further 5 i;
     }
   where
     further : (j : ℕ) → getD (drop at l) (k + j) (pos 0) ≡ getD l (at + k + j) (pos 0)
@@ -108,7 +109,7 @@ object-drop l at k =
 -- past the end every number is 0
 pub object-past : (l : List ℤ) {at at′ : ℕ} → length l ≤ at → length l ≤ at′ → objectFrom l at ≡ objectFrom l at′
 object-past l {at} {at′} h h′ =
-    λ i. record { kind = (past h ∙ sym (past h′)) i; px = further 1 i; py = further 2 i; qx = further 3 i; qy = further 4 i }
+    λ i. record { kind = (past h ∙ sym (past h′)) i; px = further 1 i; py = further 2 i; qx = further 3 i; qy = further 4 i; tag = further 5 i }
   where
     past : {k : ℕ} → length l ≤ k → getD l k (pos 0) ≡ pos 0
     past h = List·getD-eq-default l (pos 0) h
@@ -125,7 +126,8 @@ numbers-first (a ∷ []) h = absurd (omega arith)
 numbers-first (a ∷ b ∷ []) h = absurd (omega arith)
 numbers-first (a ∷ b ∷ c ∷ []) h = absurd (omega arith)
 numbers-first (a ∷ b ∷ c ∷ d ∷ []) h = absurd (omega arith)
-numbers-first (a ∷ b ∷ c ∷ d ∷ e ∷ l) h = refl
+numbers-first (a ∷ b ∷ c ∷ d ∷ e ∷ []) h = absurd (omega arith)
+numbers-first (a ∷ b ∷ c ∷ d ∷ e ∷ f ∷ l) h = refl
 
 -- ---- indices
 

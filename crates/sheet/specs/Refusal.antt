@@ -1,11 +1,12 @@
--- Which objects are refused: "One object: 1, then 4 for kind 4; else 2, then 3."
+-- Which objects are refused: "One object: 1, then 4 for kind 4; else 2, then 3.", and "15 tag out of range, after 3 or 4" (document 02).
 use mathlib.Core.Path.{_≡_}
 use mathlib.Core.Bool.{Bool, cond, not, _&&_, _||_}
 use lib.IntN.{ℤ, pos, negℤ}
 use lib.Signed.{ltZ}
 use Rattle.whole.specs.Flag.{eqZ}
 use Rattle.sheet.specs.declared.Object.{Object}
-use Rattle.sheet.specs.Limits.{reach}
+use Rattle.whole.specs.Choice.{orElse}
+use Rattle.sheet.specs.Limits.{reach, lastTag}
 
 -- z is none of lo, lo + 1, .., hi
 abbrev pub outside : ℤ → ℤ → ℤ → Bool
@@ -38,8 +39,12 @@ refusalOf kind px py qx qy =
     cond (outside (pos 1) (pos 4) kind) (pos 1)
     (cond (eqZ kind (pos 4)) (sideRefusal px py qx qy) (pairRefusal px py qx qy))
 
+-- "15 tag out of range"
+abbrev pub tagRefusal : ℤ → ℤ
+tagRefusal tag = cond (outside (pos 0) lastTag tag) (pos 15) (pos 0)
+
 unfoldable pub objectRefusal : Object → ℤ
-objectRefusal o = refusalOf (o .kind) (o .px) (o .py) (o .qx) (o .qy)
+objectRefusal o = orElse (refusalOf (o .kind) (o .px) (o .py) (o .qx) (o .qy)) (tagRefusal (o .tag))
 
 -- an accepted object
 pub record Accepted (o : Object) : Type 0 where

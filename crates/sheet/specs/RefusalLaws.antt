@@ -18,9 +18,10 @@ use Rattle.whole.specs.Order.{le-dest}
 use Rattle.whole.specs.Within.{Within}
 use Rattle.whole.specs.Bound.{w-intro}
 use Rattle.whole.specs.Flag.{eqZ}
+use Rattle.whole.specs.ChoiceLaws.{or-zero}
 use Rattle.sheet.specs.declared.Object.{Object}
 use Rattle.sheet.specs.Figure.{Vec, Side, left, bottom, right, top, Figure, segment, ray, line, side, vec, sideNumber, sideOf, figure, figureOf}
-use Rattle.sheet.specs.Refusal.{pairRefusal, sideRefusal, refusalOf, objectRefusal, Accepted}
+use Rattle.sheet.specs.Refusal.{pairRefusal, sideRefusal, refusalOf, tagRefusal, objectRefusal, Accepted}
 use Rattle.sheet.specs.Flags.{flags}
 
 -- ---- two given points
@@ -136,10 +137,10 @@ shape {kind} {px} {py} {qx} {qy} h = let f = simp flags at h in go (one-to-four 
 
 -- ---- an accepted object
 
--- from the object to its numbers: nothing else says that its refusal is theirs
+-- from the object to its numbers: nothing else says that its refusal is theirs, and then its tag's
 pub by-numbers : {o : Object} → Accepted o → refusalOf (o .kind) (o .px) (o .py) (o .qx) (o .qy) ≡ pos 0
 unfolding objectRefusal
-by-numbers a = a .accepted
+by-numbers {o} a = or-zero (refusalOf (o .kind) (o .px) (o .py) (o .qx) (o .qy)) (tagRefusal (o .tag)) (a .accepted) .0
 
 abbrev pub Taken : Object → Type 0
 Taken o = Shape (o .kind) (o .px) (o .py) (o .qx) (o .qy)

@@ -18,8 +18,10 @@ refusals =
     ∷ 7 ∷ 8 ∷ 9
     -- the lent list or byte buffer is too short for the result; more than 512 objects
     ∷ 10 ∷ 11
-    -- object index below 0 or not below the count; list length not a multiple of five
+    -- object index below 0 or not below the count; list length not a multiple of six
     ∷ 13 ∷ 14
+    -- tag out of range; a tag other than 0 written in the old form
+    ∷ 15 ∷ 16
     -- side of circle: one of the first three is no given point, or the fourth is a standard point that is none
     ∷ 21 ∷ []
 

@@ -3,8 +3,8 @@
 --   one-among                 one of numbers that are all among others is one of those
 --   not-one                   no other number is
 --   known-or, known-first     of several checks in turn, each of the table or 0, so is the first that finds something
---   known-pair, known-side, known-object, known-point, known-order, known-turn, known-side-sign, known-circle, known-crossing,
---   known-list, known-index, known-room                what the definitions refuse by is of the table
+--   known-object, known-point, known-order, known-turn, known-side-sign, known-circle, known-crossing, known-list, known-index,
+--   known-room                what the definitions refuse by is of the table
 --   refusal-in                what an answer refuses by
 -- Assumes nothing.
 use mathlib.Core.Path.{_≡_, refl, sym, ap, _∙_}
@@ -21,9 +21,9 @@ use Rattle.whole.specs.Flag.{eqZ}
 use Rattle.whole.specs.Tests.{cond-by, eqZ-true}
 use Rattle.sheet.specs.declared.Object.{Object}
 use Rattle.sheet.specs.declared.Point.{Point}
-use Rattle.sheet.specs.Limits.{most}
+use Rattle.sheet.specs.Limits.{most, lastTag}
 use Rattle.sheet.specs.Flags.{both, either}
-use Rattle.sheet.specs.Refusal.{outside, anyBeyond, equal, noSide, pairRefusal, sideRefusal, objectRefusal}
+use Rattle.sheet.specs.Refusal.{outside, anyBeyond, equal, noSide, pairRefusal, sideRefusal, refusalOf, tagRefusal, objectRefusal}
 use Rattle.sheet.specs.RefusalTable.{among, OneOf, Known}
 use Rattle.sheet.specs.Points.{standard, isPoint, narrow, pointRefusal}
 use Rattle.sheet.specs.Signs.{orderRefusal, wideRefusal, turnRefusal, sideSignRefusal}
@@ -73,20 +73,22 @@ unfolding inTurn
 known-first f h zero = one-of 0 refl
 known-first f h (suc n) = known-or (firstRefusal f n) (f n) (known-first f h n) (h n)
 
-pub known-pair : (px py qx qy : ℤ) → Known (pairRefusal px py qx qy)
+known-pair : (px py qx qy : ℤ) → Known (pairRefusal px py qx qy)
 unfolding pairRefusal
 known-pair px py qx qy =
     cond-by Known (anyBeyond px py qx qy) (λ e. one-of 2 refl) (λ e. cond-by Known (equal px py qx qy) (λ e. one-of 3 refl) (λ e. one-of 0 refl))
 
-pub known-side : (n a b c : ℤ) → Known (sideRefusal n a b c)
+known-side : (n a b c : ℤ) → Known (sideRefusal n a b c)
 unfolding sideRefusal
 known-side n a b c = cond-by Known (noSide n a b c) (λ e. one-of 4 refl) (λ e. one-of 0 refl)
 
 pub known-object : (o : Object) → Known (objectRefusal o)
 unfolding objectRefusal
 known-object o =
-    cond-by Known (outside (pos 1) (pos 4) (o .kind)) (λ e. one-of 1 refl)
-    (λ e. cond-by Known (eqZ (o .kind) (pos 4)) (λ e. known-side (o .px) (o .py) (o .qx) (o .qy)) (λ e. known-pair (o .px) (o .py) (o .qx) (o .qy)))
+    known-or (refusalOf (o .kind) (o .px) (o .py) (o .qx) (o .qy)) (tagRefusal (o .tag))
+    (cond-by Known (outside (pos 1) (pos 4) (o .kind)) (λ e. one-of 1 refl)
+    (λ e. cond-by Known (eqZ (o .kind) (pos 4)) (λ e. known-side (o .px) (o .py) (o .qx) (o .qy)) (λ e. known-pair (o .px) (o .py) (o .qx) (o .qy))))
+    (cond-by Known (outside (pos 0) lastTag (o .tag)) (λ e. one-of 15 refl) (λ e. one-of 0 refl))
 
 pub known-point : (p : Point) → Known (pointRefusal p)
 unfolding pointRefusal

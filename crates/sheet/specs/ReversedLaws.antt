@@ -20,7 +20,7 @@ use Rattle.sheet.specs.Expansions.{side-of-figure}
 use Rattle.sheet.specs.SignsLaws.{turn-swap-first}
 
 abbrev pub reversed : Object → Object
-reversed o = record { kind = o .kind; px = o .qx; py = o .qy; qx = o .px; qy = o .py }
+reversed o = record { kind = o .kind; px = o .qx; py = o .qy; qx = o .px; qy = o .py; tag = o .tag }
 
 -- the far end from q toward p, reversed, is that from p toward q: d is the same, and so is k
 pub far-same : (p q : Vec) → farEnd q (reverse (q ⇀ p)) ≡ farEnd p (p ⇀ q)

@@ -20,6 +20,7 @@ use Rattle.sheet.specs.Signs.{order, turnPoly, turn, sideSign}
 use Rattle.sheet.specs.Crossing.{none, many, stretches, withSide, withStretch, meeting, crossingOf}
 use Rattle.sheet.specs.Crossing as crossing
 use Rattle.sheet.specs.Answers.{madeSays, endsSay, signedSays, meetingNumbers, crossingSays}
+use Rattle.sheet.specs.Tags.{tagged}
 use Rattle.sheet.specs.Cases.{minus, segment, ray, line, side, point, at}
 
 -- (-R, R), (-R, -R), (R, -R), (R, R)
@@ -113,7 +114,8 @@ pub record WorkedAnswers : Type 0 where
       × (meetingNumbers (crossing.point topLeft) ≡ pos 1 ∷ minus 1 ∷ pos 0 ∷ pos 1 ∷ pos 0 ∷ pos 1 ∷ [])
   -- what each answer says: 0 and its values, or the number of the refusal alone
   made-says :
-      (madeSays (made.Done (side (pos 3))) ≡ pos 0 ∷ pos 4 ∷ pos 3 ∷ pos 0 ∷ pos 0 ∷ pos 0 ∷ []) × (madeSays (made.Refused (pos 2)) ≡ pos 2 ∷ [])
+      (madeSays (made.Done (tagged (pos 7) (side (pos 3)))) ≡ pos 0 ∷ pos 4 ∷ pos 3 ∷ pos 0 ∷ pos 0 ∷ pos 0 ∷ pos 7 ∷ [])
+      × (madeSays (made.Refused (pos 2)) ≡ pos 2 ∷ [])
   ends-say :
       (endsSay (ends.Both up topRight) ≡ pos 0 ∷ pos 0 ∷ pos 0 ∷ pos 0 ∷ pos 1 ∷ pos 1 ∷ pos 1 ∷ pos 0 ∷ pos 1 ∷ pos 0 ∷ pos 1 ∷ [])
       × (endsSay (ends.Refused (pos 3)) ≡ pos 3 ∷ [])

@@ -4,16 +4,16 @@ pub mod lists;
 pub mod refusal;
 
 ghost use mathlib.Core.Path.{_≡_};
-ghost use mathlib.Core.List.{[], _∷_};
 ghost use lib.IntN.{pos};
-ghost use Rattle.sheet.specs.Limits.{reach, most};
-ghost use Rattle.sheet.specs.Refusal.{outside, beyond, anyBeyond, equal, noSide, pairRefusal, sideRefusal, refusalOf, objectRefusal};
-ghost use Rattle.sheet.specs.Answers.{answer, madeSays};
+ghost use Rattle.sheet.specs.Limits.{reach, most, lastTag};
+ghost use Rattle.sheet.specs.Refusal.{outside, beyond, anyBeyond, equal, noSide, pairRefusal, sideRefusal, refusalOf, tagRefusal, objectRefusal};
+ghost use Rattle.sheet.specs.Answers.{madeSays, makes};
 ghost use Rattle.sheet.specs.Lists.{width};
 ghost use Rattle.sheet.specs.Points.{given};
 ghost use Rattle.sheet.specs.Ends.{corner};
 
-// An object of a sheet. Kind 1 is a segment, 2 a ray, 3 a line, each from p toward q; kind 4 is the frame's side of number px.
+// An object of a sheet. Kind 1 is a segment, 2 a ray, 3 a line, each from p toward q; kind 4 is the frame's side of number px. The tag tells
+// which layer it is of, and nothing else depends on it.
 #[repr(C)]
 pub struct Object {
     pub kind: i64,
@@ -21,6 +21,7 @@ pub struct Object {
     pub py: i64,
     pub qx: i64,
     pub qy: i64,
+    pub tag: i64,
 }
 
 // A point: x is (mx R + nx)/w and y is (my R + ny)/w, where the frame goes from -R to R; what holds, holds for every large R.
@@ -64,8 +65,10 @@ impl Object {
     pub const REACH: i64 = 2000;
     // The most objects that a sheet has.
     pub const MOST: usize = 512;
+    // The largest tag; the smallest is 0.
+    pub const LAST_TAG: i64 = 2_000_000;
     // The numbers of an object in a list.
-    pub const WIDTH: usize = 5;
+    pub const WIDTH: usize = 6;
 
     pub const SEGMENT: i64 = 1;
 
@@ -75,38 +78,28 @@ impl Object {
 
     pub const SIDE: i64 = 4;
 
-    pub fn segment(px: i64, py: i64, qx: i64, qy: i64) -> Made
-        ensures { λ r. ⌜ madeSays r ≡ answer (pairRefusal px py qx qy) (pos 1 ∷ px ∷ py ∷ qx ∷ qy ∷ []) ⌝ }
+    pub fn segment(px: i64, py: i64, qx: i64, qy: i64, tag: i64) -> Made
+        ensures { λ r. ⌜ madeSays r ≡ makes (pos 1) px py qx qy tag ⌝ }
     {
-        make(Object::SEGMENT, px, py, qx, qy)
+        make(Object::SEGMENT, px, py, qx, qy, tag)
     }
 
-    pub fn ray(px: i64, py: i64, qx: i64, qy: i64) -> Made
-        ensures { λ r. ⌜ madeSays r ≡ answer (pairRefusal px py qx qy) (pos 2 ∷ px ∷ py ∷ qx ∷ qy ∷ []) ⌝ }
+    pub fn ray(px: i64, py: i64, qx: i64, qy: i64, tag: i64) -> Made
+        ensures { λ r. ⌜ madeSays r ≡ makes (pos 2) px py qx qy tag ⌝ }
     {
-        make(Object::RAY, px, py, qx, qy)
+        make(Object::RAY, px, py, qx, qy, tag)
     }
 
-    pub fn line(px: i64, py: i64, qx: i64, qy: i64) -> Made
-        ensures { λ r. ⌜ madeSays r ≡ answer (pairRefusal px py qx qy) (pos 3 ∷ px ∷ py ∷ qx ∷ qy ∷ []) ⌝ }
+    pub fn line(px: i64, py: i64, qx: i64, qy: i64, tag: i64) -> Made
+        ensures { λ r. ⌜ madeSays r ≡ makes (pos 3) px py qx qy tag ⌝ }
     {
-        make(Object::LINE, px, py, qx, qy)
+        make(Object::LINE, px, py, qx, qy, tag)
     }
 
-    pub fn side(n: i64) -> Made
-        ensures { λ r. ⌜ madeSays r ≡ answer (sideRefusal n (pos 0) (pos 0) (pos 0)) (pos 4 ∷ n ∷ pos 0 ∷ pos 0 ∷ pos 0 ∷ []) ⌝ }
+    pub fn side(n: i64, tag: i64) -> Made
+        ensures { λ r. ⌜ madeSays r ≡ makes (pos 4) n (pos 0) (pos 0) (pos 0) tag ⌝ }
     {
-        let no = side_refusal(n, 0, 0, 0);
-        if no != 0 {
-            return Made::Refused(no);
-        }
-        Made::Done(Object {
-            kind: Object::SIDE,
-            px: n,
-            py: 0,
-            qx: 0,
-            qy: 0,
-        })
+        make(Object::SIDE, n, 0, 0, 0, tag)
     }
 }
 
@@ -147,20 +140,22 @@ impl Point {
     }
 }
 
-fn make(kind: i64, px: i64, py: i64, qx: i64, qy: i64) -> Made
-    ensures { λ r. ⌜ madeSays r ≡ answer (pairRefusal px py qx qy) (kind ∷ px ∷ py ∷ qx ∷ qy ∷ []) ⌝ }
+fn make(kind: i64, px: i64, py: i64, qx: i64, qy: i64, tag: i64) -> Made
+    ensures { λ r. ⌜ madeSays r ≡ makes kind px py qx qy tag ⌝ }
 {
-    let no = pair_refusal(px, py, qx, qy);
-    if no != 0 {
-        return Made::Refused(no);
-    }
-    Made::Done(Object {
+    let object = Object {
         kind,
         px,
         py,
         qx,
         qy,
-    })
+        tag,
+    };
+    let no = object_refusal(object);
+    if no != 0 {
+        return Made::Refused(no);
+    }
+    Made::Done(object)
 }
 
 fn is_outside(lo: i64, hi: i64, z: i64) -> bool
@@ -217,6 +212,7 @@ fn side_refusal(n: i64, a: i64, b: i64, c: i64) -> i64
     0
 }
 
+// The refusal of what an object is, before its tag.
 fn refusal_of(kind: i64, px: i64, py: i64, qx: i64, qy: i64) -> i64
     ensures { λ r. ⌜ r ≡ refusalOf kind px py qx qy ⌝ }
 {
@@ -229,10 +225,22 @@ fn refusal_of(kind: i64, px: i64, py: i64, qx: i64, qy: i64) -> i64
     pair_refusal(px, py, qx, qy)
 }
 
-// The refusal of an object: 1, then 4 for kind 4, else 2 and then 3; 0 for none. The brackets hold the type's numbers to the paper's.
+// The refusal of a tag, 15; 0 for none.
+fn tag_refusal(tag: i64) -> i64
+    ensures { λ r. ⌜ r ≡ tagRefusal tag ⌝ }
+{
+    if is_outside(0, Object::LAST_TAG, tag) {
+        return refusal::NO_TAG;
+    }
+    0
+}
+
+// The refusal of an object: 1, then 4 for kind 4, else 2 and then 3; then 15; 0 for none. The brackets hold the type's numbers to the paper's.
 pub fn object_refusal(o: Object) -> i64
     ensures { λ r. ⌜ r ≡ objectRefusal o ⌝ }
-    ensures { λ r. do ⌜ ((← ⟦Object::REACH⟧ .entry) ≡ reach) × ((← ⟦Object::MOST⟧ .entry) ≡ most) × ((← ⟦Object::WIDTH⟧ .entry) ≡ width) ⌝ }
+    ensures { λ r. do ⌜ ((← ⟦Object::REACH⟧ .entry) ≡ reach) × ((← ⟦Object::MOST⟧ .entry) ≡ most) × ((← ⟦Object::LAST_TAG⟧ .entry) ≡ lastTag) × ((← ⟦Object::WIDTH⟧ .entry) ≡ width) ⌝ }
 {
-    refusal_of(o.kind, o.px, o.py, o.qx, o.qy)
+    let shape = refusal_of(o.kind, o.px, o.py, o.qx, o.qy);
+    let tag = tag_refusal(o.tag);
+    whole::or_else(shape, tag)
 }

@@ -6,12 +6,12 @@ use crate::refusal::TOO_MANY;
 ghost use mathlib.Core.Path.{_≡_};
 ghost use Prim.Native.Nat.{_+_, _≤_};
 ghost use lib.ListN.{length};
-ghost use Rattle.sheet.specs.Lists.{width, number, objectFrom, objectAt, objectsRefusal, listRefusal};
+ghost use Rattle.sheet.specs.Lists.{width, countOf, number, objectFrom, objectAt, objectsRefusal, listRefusal};
 
-// The numbers of a row that say what a pair shares, and all of a row.
+// The numbers of a row that say what a pair shares; and all of a row, which ends with the tags of the two.
 pub const SHARE_WIDTH: usize = 8;
 
-pub const ROW_WIDTH: usize = SHARE_WIDTH;
+pub const ROW_WIDTH: usize = SHARE_WIDTH + 2;
 
 // The object whose numbers begin at a place of a list that has them all.
 fn object_from(list: &[i64], at: usize) -> Object
@@ -24,6 +24,7 @@ fn object_from(list: &[i64], at: usize) -> Object
         py: list[at + 2],
         qx: list[at + 3],
         qy: list[at + 4],
+        tag: list[at + 5],
     }
 }
 
@@ -48,6 +49,7 @@ fn object_cut(list: &[i64], at: usize) -> Object
         py: number_at(list, at + 2),
         qx: number_at(list, at + 3),
         qy: number_at(list, at + 4),
+        tag: number_at(list, at + 5),
     }
 }
 
@@ -65,10 +67,11 @@ pub fn object_at(list: &[i64], i: usize) -> Object
     object_cut(list, i * Object::WIDTH)
 }
 
-// The first refusal of n objects in turn.
-fn objects_refusal(list: &[i64], n: usize) -> i64
-    ensures { λ r. ⌜ r ≡ objectsRefusal (now (list .entry)) n ⌝ }
+// The first refusal of the objects in turn.
+fn objects_refusal(list: &[i64]) -> i64
+    ensures { λ r. ⌜ r ≡ objectsRefusal (now (list .entry)) (countOf (now (list .entry))) ⌝ }
 {
+    let n = list.len() / Object::WIDTH;
     let mut i = 0;
     while i < n {
         let o = object_at(list, i);
@@ -92,5 +95,5 @@ pub fn list_refusal(list: &[i64]) -> i64
     if Object::MOST < n {
         return TOO_MANY;
     }
-    objects_refusal(list, n)
+    objects_refusal(list)
 }

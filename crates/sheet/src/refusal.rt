@@ -7,7 +7,7 @@ pub const NO_KIND: i64 = 1;
 pub const TOO_FAR: i64 = 2;
 // p equals q
 pub const SAME_POINTS: i64 = 3;
-// side number not 1 to 4, or one of the other three numbers not 0
+// side number not 1 to 4, or one of py, qx and qy not 0
 pub const NO_SIDE: i64 = 4;
 // five numbers that are no point
 pub const NO_POINT: i64 = 5;
@@ -25,7 +25,11 @@ pub const NO_ROOM: i64 = 10;
 pub const TOO_MANY: i64 = 11;
 // object index not below the count
 pub const NO_OBJECT: i64 = 13;
-// list length not a multiple of five, or of eight for rows
+// list length not a multiple of six, or of ten for rows
 pub const LIST_LENGTH: i64 = 14;
+// a tag below 0 or above 2,000,000
+pub const NO_TAG: i64 = 15;
+// a tag other than 0 written as a stored drawing, which has no place for it
+pub const TAG_LOST: i64 = 16;
 // of the first three points of a circle, or a standard fourth, one that is no given point
 pub const NOT_GIVEN: i64 = 21;

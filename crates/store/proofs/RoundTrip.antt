@@ -2,23 +2,30 @@
 -- To cite:
 --   bytes-come-back     "An accepted stored drawing read and written again has the same bytes"
 --   objects-come-back   "a drawing written and read again has the same objects in the same order, first point first"
+--   untagged-exactly, untagged-written   "demand 2's way from drawing to bytes and back is for tags that are all 0" (document 02): exactly there
+--                       an accepted list is not refused by 16; and there it is refused for nothing but room
 -- Each holds for every room: the second call is refused for nothing but room, its answer has the length of what comes back, and the lent
 -- cells hold it in front of what was there, or, where the room is too short, what was there.
 use mathlib.Core.Path.{_≡_, sym, ap, _∙_}
+use mathlib.Core.Logic.{_⊎_, inl, inr, _↔_}
+use mathlib.Core.Bool.{Bool, true, false, cond}
 use mathlib.Core.List.{List}
 use Prim.Native.Nat.{ℕ}
+use native.Mathlib.Omega.{arith}
+use lib.Dec.{ltb}
 use lib.IntN.{ℤ, pos}
 use lib.ListN.{length, take}
 use contract.Lifetimes.{Lfts}
 use denote.Ref.{RefT}
 use Rattle.sheet.specs.Lent.{roomRefusal, otherNumber, lengthGiven, filled}
 use Rattle.sheet.specs.LentLaws.{filled-front}
-use Rattle.sheet.specs.Lists.{countOf}
+use Rattle.sheet.specs.Lists.{countOf, listRefusal}
 use Rattle.store.specs.declared.Read.{Read}
 use Rattle.store.specs.declared.Written.{Written}
 use Rattle.store.specs.Stored.{Drawing, readDrawing, writeDrawing, writeRefusal}
 use Rattle.store.specs.Answers.{readAnswer, readInto, writeAnswer, writeInto}
 use Rattle.number.specs.Number.{Bytes}
+use Rattle.store.specs.UntaggedLaws.{Untagged, untagged-taken, taken-untagged, tagged-refused}
 use Rattle.store.specs.StoredLaws.{written-read, read-written}
 use Rattle.store.proofs.read_drawing.Reads as read-drawing
 use Rattle.store.proofs.write_drawing.Reads as write-drawing
@@ -96,3 +103,41 @@ objects-come-back list bytes c κs lent after answer met =
       met .0 ∙ ap (λ (d : Drawing). readAnswer d (lent .now)) back,
       met .1 ∙ ap (λ (d : Drawing). readInto d (lent .now)) back,
     )
+
+-- ---- what can be written
+
+module _ (list : RefT (List ℤ)) (fine : listRefusal (list .now) ≡ pos 0) (κs : Lfts 2) (lent after : RefT (List ℕ)) (answer : Written) where
+  -- 0 or 10 is not 16
+  room-only : (short : Bool) → cond short (pos 10) (pos 0) ≡ pos 16 → ⊥
+  room-only true e = let z : _≡_ {A = ℕ} 10 16 = cc in omega arith
+  room-only false e = let z : _≡_ {A = ℕ} 0 16 = cc in omega arith
+
+  pub untagged-exactly : write-drawing.Post κs (list, (lent, tt)) answer (list, (after, tt)) → (answer .refusal ≡ pos 16 → ⊥) ↔ Untagged (list .now)
+  unfolding writeAnswer
+  untagged-exactly met = (λ d. there d (tagged-refused (list .now) fine), λ a e. room-only (ltb (length (lent .now)) size) (sym (given (untagged-taken (list .now) fine a)) ∙ e))
+    where
+      size : ℕ
+      size = length (writeDrawing (list .now))
+
+      given : {n : ℤ} → writeRefusal (list .now) ≡ n → answer .refusal ≡ roomRefusal n size (length (lent .now))
+      given h = ap (λ (r : Written). r .refusal) (met .0) ∙ ap (λ (n : ℤ). roomRefusal n size (length (lent .now))) h
+
+      there : (answer .refusal ≡ pos 16 → ⊥) → (writeRefusal (list .now) ≡ pos 0) ⊎ (writeRefusal (list .now) ≡ pos 16) → Untagged (list .now)
+      there d (inl h) = taken-untagged (list .now) h .1
+      there d (inr h) = absurd (d (given h))
+
+  pub untagged-written :
+      Untagged (list .now) → write-drawing.Post κs (list, (lent, tt)) answer (list, (after, tt))
+      → let bytes = writeDrawing (list .now) in
+      (answer ≡ record { refusal = roomRefusal (pos 0) (length bytes) (length (lent .now)); length = length bytes })
+      × (after .now ≡ filled (pos 0) bytes (lent .now))
+  unfolding writeAnswer writeInto
+  untagged-written a met =
+      let bytes = writeDrawing (list .now) in
+      let none = untagged-taken (list .now) fine a in (
+        met .0 ∙ (λ i. record {
+          refusal = roomRefusal (none i) (length bytes) (length (lent .now));
+          length = lengthGiven (none i) (length bytes);
+        }),
+        met .1 ∙ (λ i. filled (none i) bytes (lent .now)),
+      )

@@ -13,6 +13,7 @@ pub mod Bounded
 pub mod SureLaws
 pub mod ObjectsLaws
 pub mod ListLaws
+pub mod UntaggedLaws
 pub mod BoundedLaws
 pub mod AnswersLaws
 -- laws: there and back

@@ -26,8 +26,9 @@ use Rattle.sheet.specs.ListsLaws.{is-listable, object-next}
 use Rattle.number.specs.Number.{limit, writeGroups, zigzag, Reading, got, no, next, checked, unzigzag}
 use Rattle.number.specs.ZigzagLaws.{zigzag-unzigzag}
 use Rattle.number.specs.SameLaws.{Same, on, off, same-next, same-checked, same-cond, same-weak, same-take}
-use Rattle.store.specs.Stored.{Form, plain, Drawing, nought, originOf, longest, andThen, counted, before, writeDrawing, writeRefusal, readCoordinate, sideObject, readSide, readPoint, readTo, readPair, readShape, readObject, readObjects, readCount, readDrawing, writeShape, writeObject, writeObjects}
-use Rattle.store.specs.SureLaws.{Sure, not-nought, sure-point, sure-object, sure-count}
+use Rattle.store.specs.Stored.{Form, plain, untagged, Drawing, nought, originOf, longest, andThen, counted, before, writeDrawing, writeRefusal, readCoordinate, sideObject, readSide, readPoint, readTo, readPair, readShape, readObject, readObjects, readCount, readDrawing, writeShape, writeObject, writeObjects}
+use Rattle.store.specs.SureLaws.{Sure, Kept, not-nought, sure-point, sure-object, sure-count}
+use Rattle.store.specs.UntaggedLaws.{untagged-taken}
 use Rattle.store.specs.SureLaws as sure
 use Rattle.store.specs.ListLaws.{objects-first}
 use Rattle.store.specs.Trip.{back, stored-small, InReach, Sound, plain-sound, near-nought, near-origin}
@@ -185,18 +186,18 @@ write-no-longer l e = no-longer (writeDrawing l) (ap (λ (d : Drawing). d .refus
 -- segments from (2000, 2000) to (1999, 1999)
 unfoldable pub longSegments : ℕ → List ℤ
 longSegments zero = []
-longSegments (suc n) = pos 1 ∷ pos 2000 ∷ pos 2000 ∷ pos 1999 ∷ pos 1999 ∷ longSegments n
+longSegments (suc n) = pos 1 ∷ pos 2000 ∷ pos 2000 ∷ pos 1999 ∷ pos 1999 ∷ untagged ∷ longSegments n
 
 segments-many : (n : ℕ) → length (longSegments n) ≡ n * width
 unfolding longSegments
 segments-many zero = refl
 segments-many (suc n) = omega (arith, segments-many n)
 
-segments-taken : (n i : ℕ) → i < n → Accepted (objectAt (longSegments n) i)
+segments-taken : (n i : ℕ) → i < n → Kept (objectAt (longSegments n) i)
 unfolding longSegments objectRefusal pairRefusal
 segments-taken zero i h = absurd (omega arith)
-segments-taken (suc n) zero h = record { accepted = refl }
-segments-taken (suc n) (suc i) h = subst Accepted (object-next (longSegments (suc n)) i) (segments-taken n i (omega arith))
+segments-taken (suc n) zero h = (record { accepted = refl }, refl)
+segments-taken (suc n) (suc i) h = subst Kept (object-next (longSegments (suc n)) i) (segments-taken n i (omega arith))
 
 segments-long : (n : ℕ) → length (writeObjects plain n (longSegments n)) ≡ n * 9
 unfolding longSegments inTurn writeObject writeShape writeGroups
@@ -208,7 +209,9 @@ unfolding writeDrawing writeGroups
 longest-reached =
     let many = segments-many most in
     let count : countOf (longSegments most) ≡ most = omega arith in (
-      is-listable (longSegments most)
-          (record { whole = omega arith; few = omega arith; each = λ i h. segments-taken most i (omega arith) }),
+      untagged-taken (longSegments most)
+          (is-listable (longSegments most)
+          (record { whole = omega arith; few = omega arith; each = λ i h. segments-taken most i (omega arith) .0 }))
+          (record { each = λ i h. segments-taken most i (omega arith) .1 }),
       simp count (omega (arith, segments-long most)),
     )

@@ -1,5 +1,5 @@
 -- Objects in a form, written and read again, and back. To cite:
---   object-back   an accepted object, written in a sound form, is read as it was, its first point first
+--   object-back   an accepted object of tag 0, written in a sound form, is read as it was, its first point first
 --   object-from   what is written for what is read is what was read
 -- Assumes nothing.
 use mathlib.Core.Path.{_≡_, refl, sym, ap, subst, _∙_}
@@ -13,11 +13,13 @@ use lib.IntN.{ℤ, pos, negsuc, natAbs}
 use Rattle.whole.specs.Tests.{eqZ-true}
 use Rattle.sheet.specs.declared.Object.{Object}
 use Rattle.sheet.specs.Figure.{vec, Vec}
-use Rattle.sheet.specs.Refusal.{outside, beyond, anyBeyond, equal, pairRefusal, sideRefusal, objectRefusal}
+use Rattle.sheet.specs.Refusal.{outside, beyond, anyBeyond, equal, pairRefusal, sideRefusal, refusalOf}
+use Rattle.sheet.specs.RefusalLaws.{by-numbers}
 use Rattle.sheet.specs.Flags.{neither, isnt-not, cond-zero}
 use Rattle.number.specs.Number.{Reading, got, no, next, checked, writeNumber, Bytes}
-use Rattle.store.specs.Stored.{Form, nought, originOf, writePoint, writePair, writeShape, writeObject, sideObject, readSide, readTo, readPair, readShape, readObject}
+use Rattle.store.specs.Stored.{Form, nought, originOf, writePoint, writePair, writeShape, writeObject, objectOf, sideObject, readSide, readTo, readPair, readShape, readObject}
 use Rattle.number.specs.TripLaws.{behind-bytes, From, from, not, from-checked, number-back, number-from}
+use Rattle.store.specs.SureLaws.{Kept}
 use Rattle.store.specs.Trip.{InReach, point-back, point-from, Sound, near-nought, near-origin}
 
 -- ---- what refusal 0 says, as flags
@@ -47,12 +49,9 @@ small-natural n e = ltb-false 4 n (neither (ltb n 1) (ltb 4 n) .0 e .1)
 
 -- ---- back
 
-abbrev object : ℤ → ℤ → ℤ → ℤ → ℤ → Object
-object kind px py qx qy = record { kind = kind; px = px; py = py; qx = qx; qy = qy }
-
 side-back :
     (px py qx qy : ℤ) (rest : List ℕ) → sideRefusal px py qx qy ≡ pos 0
-    → readSide (writeNumber (natAbs px) ++ rest) ≡ got (object (pos 4) px py qx qy) rest
+    → readSide (writeNumber (natAbs px) ++ rest) ≡ got (objectOf (pos 4) px py qx qy) rest
 unfolding sideRefusal readSide
 side-back px py qx qy rest h =
     let a = cond-zero _ (pos 4) (pos 0) refl .0 h .0 in
@@ -64,14 +63,14 @@ side-back px py qx qy rest h =
     let small = small-natural (natAbs px) in-range in
     simp (number-back (natAbs px) rest (omega arith), in-range)
     (λ i. got
-    (object (pos 4) (sym n i) (sym (eqZ-true {a = py} (isnt-not _ .0 (e .1))) i) (sym (eqZ-true {a = qx} (isnt-not _ .0 (d .1))) i)
+    (objectOf (pos 4) (sym n i) (sym (eqZ-true {a = py} (isnt-not _ .0 (e .1))) i) (sym (eqZ-true {a = qx} (isnt-not _ .0 (d .1))) i)
     (sym (eqZ-true {a = qy} (isnt-not _ .0 (c .1))) i))
     rest)
 
 module _ {f : Form} (sound : Sound f) where
   pair-back :
       (kind : ℕ) (px py qx qy : ℤ) (rest : List ℕ) → pairRefusal px py qx qy ≡ pos 0
-      → readPair f kind (writePair f (vec px py) (vec qx qy) ++ rest) ≡ got (object (pos kind) px py qx qy) rest
+      → readPair f kind (writePair f (vec px py) (vec qx qy) ++ rest) ≡ got (objectOf (pos kind) px py qx qy) rest
   unfolding readPair readTo
   pair-back kind px py qx qy rest h =
       let p = vec px py in
@@ -87,29 +86,34 @@ module _ {f : Form} (sound : Sound f) where
   shape-back :
       (kind : ℕ) (px py qx qy : ℤ) (rest : List ℕ)
       → cond (eqb kind 4) (sideRefusal px py qx qy) (pairRefusal px py qx qy) ≡ pos 0
-      → readShape f kind (writeShape f (pos kind) px py qx qy ++ rest) ≡ got (object (pos kind) px py qx qy) rest
+      → readShape f kind (writeShape f (pos kind) px py qx qy ++ rest) ≡ got (objectOf (pos kind) px py qx qy) rest
   unfolding readShape writeShape
   shape-back kind px py qx qy rest h = go (eqb kind 4) (eqb-true kind 4) h
     where
       go : (t : Bool) → (t ≡ true → kind ≡ 4) → cond t (sideRefusal px py qx qy) (pairRefusal px py qx qy) ≡ pos 0
           → cond t (readSide (cond t (writeNumber (natAbs px)) (writePair f (vec px py) (vec qx qy)) ++ rest))
           (readPair f kind (cond t (writeNumber (natAbs px)) (writePair f (vec px py) (vec qx qy)) ++ rest))
-          ≡ got (object (pos kind) px py qx qy) rest
-      go true y h = side-back px py qx qy rest h ∙ ap (λ (k : ℕ). got (object (pos k) px py qx qy) rest) (sym (y refl))
+          ≡ got (objectOf (pos kind) px py qx qy) rest
+      go true y h = side-back px py qx qy rest h ∙ ap (λ (k : ℕ). got (objectOf (pos k) px py qx qy) rest) (sym (y refl))
       go false y h = pair-back kind px py qx qy rest h
 
-  pub object-back : (o : Object) (rest : List ℕ) → objectRefusal o ≡ pos 0 → readObject f (writeObject f o ++ rest) ≡ got o rest
-  unfolding readObject writeObject objectRefusal
+  -- of the tag nothing is written
+  pub object-back : (o : Object) (rest : List ℕ) → Kept o → readObject f (writeObject f o ++ rest) ≡ got o rest
+  unfolding readObject writeObject
   object-back o rest h =
-      let e = natural (o .kind) (cond-zero _ (pos 1) _ refl .0 h .0) in
+      let five = by-numbers (h .0) in
+      let e = natural (o .kind) (cond-zero _ (pos 1) _ refl .0 five .0) in
       subst
-      (λ (z : ℤ). objectRefusal (object z (o .px) (o .py) (o .qx) (o .qy)) ≡ pos 0
-      → readObject f (writeObject f (object z (o .px) (o .py) (o .qx) (o .qy)) ++ rest) ≡ got (object z (o .px) (o .py) (o .qx) (o .qy)) rest)
-      (sym e) (at (natAbs (o .kind))) h
+      (λ (z : ℤ). refusalOf z (o .px) (o .py) (o .qx) (o .qy) ≡ pos 0
+      → readObject f (writeObject f (of z) ++ rest) ≡ got (of z) rest)
+      (sym e) (at (natAbs (o .kind))) five
+      ∙ ap (λ (o : Object). got o rest) (λ i. record { kind = o .kind; px = o .px; py = o .py; qx = o .qx; qy = o .qy; tag = sym (h .1) i })
     where
-      at : (k : ℕ) → objectRefusal (object (pos k) (o .px) (o .py) (o .qx) (o .qy)) ≡ pos 0
-          → readObject f (writeObject f (object (pos k) (o .px) (o .py) (o .qx) (o .qy)) ++ rest) ≡ got (object (pos k) (o .px) (o .py)
-          (o .qx) (o .qy)) rest
+      of : ℤ → Object
+      of z = objectOf z (o .px) (o .py) (o .qx) (o .qy)
+
+      at : (k : ℕ) → refusalOf (pos k) (o .px) (o .py) (o .qx) (o .qy) ≡ pos 0
+          → readObject f (writeObject f (of (pos k)) ++ rest) ≡ got (of (pos k)) rest
       at k h =
           let l = cond-zero (outside (pos 1) (pos 4) (pos k)) (pos 1) _ refl .0 h in
           let small = small-natural k (l .0) in
@@ -141,13 +145,13 @@ module _ (f : Form) where
       where
         go : {r : Reading Vec} → From (writePoint (originOf f p)) rest r
             → From (writeObject f) (writeNumber kind ++ bs)
-            (next r (λ q rest. checked (equal (p .x) (p .y) (q .x) (q .y)) (pos 3) (object (pos kind) (p .x) (p .y) (q .x) (q .y)) rest))
+            (next r (λ q rest. checked (equal (p .x) (p .y) (q .x) (q .y)) (pos 3) (objectOf (pos kind) (p .x) (p .y) (q .x) (q .y)) rest))
         go (not n) = not n
         go (from q rest′ g) =
             let both = e
             ∙ ap (λ (l : List ℕ). writePoint nought p ++ l) g
             ∙ sym (append-assoc (writePoint nought p) (writePoint (originOf f p) q) rest′) in
-            from-checked (equal (p .x) (p .y) (q .x) (q .y)) (pos 3) (object (pos kind) (p .x) (p .y) (q .x) (q .y)) rest′
+            from-checked (equal (p .x) (p .y) (q .x) (q .y)) (pos 3) (objectOf (pos kind) (p .x) (p .y) (q .x) (q .y)) rest′
             (simp other
             (ap (λ (l : List ℕ). writeNumber kind ++ l) both ∙ sym (append-assoc (writeNumber kind) (writePair f p q) rest′)))
 

@@ -1,6 +1,6 @@
 -- Reading object by object. To cite:
 --   objects-step, objects-stop   one more object, or its refusal, by what the code is told at a place
---   objects-length               five numbers an object
+--   objects-length               six numbers an object
 --   drawing-refused, drawing-counted   the count, and then the objects
 --   objects-end, objects-over    after the last object
 -- Assumes nothing.
@@ -52,7 +52,7 @@ unfolding readObjects
 objects-over f [] h = absurd (omega arith)
 objects-over f (b ∷ bs) h = refl
 
--- "five numbers" an object
+-- "six numbers an object" (document 02)
 pub objects-length : (f : Form) (k : ℕ) (bs : List ℕ) → readObjects f k bs .refusal ≡ pos 0 → length (readObjects f k bs .objects) ≡ k * width
 unfolding readObjects
 objects-length f zero [] e = refl

@@ -69,7 +69,7 @@ endOf n = cond (eqZ n (pos 0)) End (Refused n)
 unfoldable pub itemOf : Drawing → ℕ → Item
 itemOf d k = cond (ltb (k * width) (length (d .objects))) (One (objectAt (d .objects) k)) (endOf (d .refusal))
 
--- what an item says, as the paper's numbers: 0 and the five of an object, nothing at the end, the number of a refusal
+-- what an item says, as the paper's numbers: 0 and the six of an object, nothing at the end, the number of a refusal
 abbrev pub itemSays : Item → List ℤ
 itemSays (One o) = pos 0 ∷ objectNumbers o
 itemSays End = []

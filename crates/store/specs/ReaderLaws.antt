@@ -54,9 +54,9 @@ unfolding itemOf
 item-next o d k =
     let l = d .objects in
     let row = objectNumbers o in
-    let five : suc k * width ≡ width + k * width = omega arith in
+    let wide : suc k * width ≡ width + k * width = omega arith in
     let long : length (row ++ l) ≡ width + length l = omega (arith, length-append row l) in
-    let test : ltb (suc k * width) (length (row ++ l)) ≡ ltb (k * width) (length l) = (λ i. ltb (five i) (long i)) ∙ shift (k * width)
+    let test : ltb (suc k * width) (length (row ++ l)) ≡ ltb (k * width) (length l) = (λ i. ltb (wide i) (long i)) ∙ shift (k * width)
     (length l) in
     λ i. cond (test i) (One (sym (object-next (row ++ l) k) i)) (endOf (d .refusal))
 

@@ -16,7 +16,7 @@ use Rattle.sheet.specs.Refusal.{sideRefusal, pairRefusal, objectRefusal}
 use Rattle.sheet.specs.Lists.{listRefusal}
 use Rattle.sheet.specs.Cases.{line, ray, side, point, at}
 use Rattle.number.specs.Number.{writeGroups, readGroups}
-use Rattle.store.specs.Stored.{writeShape, writeObject, writeDrawing, readCoordinate, readSide, readPoint, readTo, readPair, readShape, readObject, readObjects, readCount, readDrawing}
+use Rattle.store.specs.Stored.{writeShape, writeObject, writeDrawing, writeRefusal, readCoordinate, readSide, readPoint, readTo, readPair, readShape, readObject, readObjects, readCount, readDrawing}
 
 row-4 : Point
 row-4 = lastEnd (line (pos 0) (pos 1) (pos 2) (pos 2))
@@ -25,10 +25,12 @@ row-4 = lastEnd (line (pos 0) (pos 1) (pos 2) (pos 2))
 row-bytes : List ℕ
 row-bytes = 3 ∷ 3 ∷ 0 ∷ 0 ∷ 4 ∷ 2 ∷ 1 ∷ 0 ∷ 4 ∷ 4 ∷ 0 ∷ 4 ∷ 3 ∷ []
 
--- "a line from (0,0) toward (2,1), a segment from (0,2) to (2,0) and side 3"
+-- "a line from (0,0) toward (2,1), a segment from (0,2) to (2,0) and side 3", each with tag 0
 row-objects : List ℤ
 row-objects =
-    pos 3 ∷ pos 0 ∷ pos 0 ∷ pos 2 ∷ pos 1 ∷ pos 1 ∷ pos 0 ∷ pos 2 ∷ pos 2 ∷ pos 0 ∷ pos 4 ∷ pos 3 ∷ pos 0 ∷ pos 0 ∷ pos 0 ∷ []
+    pos 3 ∷ pos 0 ∷ pos 0 ∷ pos 2 ∷ pos 1 ∷ pos 0
+    ∷ pos 1 ∷ pos 0 ∷ pos 2 ∷ pos 2 ∷ pos 0 ∷ pos 0
+    ∷ pos 4 ∷ pos 3 ∷ pos 0 ∷ pos 0 ∷ pos 0 ∷ pos 0 ∷ []
 
 pub record WorkedRows : Type 0 where
   -- 1. Line (0,3) to (1,4): far end (1, -3, 1, 0, 1). 2. Its other end: (-1, 0, -1, 3, 1).
@@ -58,11 +60,11 @@ pub record WorkedRows : Type 0 where
       ≡ crossing.point (point (pos 1) (pos 0) (pos 1) (pos 0) (pos 1))
   -- 10. The 13 bytes above give their three objects and come back.
   ten : readDrawing row-bytes ≡ record { objects = row-objects; refusal = pos 0 }
-  ten-taken : listRefusal row-objects ≡ pos 0
+  ten-taken : writeRefusal row-objects ≡ pos 0
   ten-back : writeDrawing row-objects ≡ row-bytes
 
 pub worked-rows : WorkedRows
-unfolding crossing.stretches crossing.withSide crossing.withStretch crossing.meeting crossing.crossingOf sgn steps gcd gcdOf sideOf figureOf divided farRaw farEnd firstEnd lastEnd row-4 order turnPoly turn row-bytes row-objects writeGroups writeShape writeObject writeDrawing inTurn listRefusal readGroups readCoordinate readSide readPoint readTo readPair readShape readObject readObjects readCount readDrawing sideRefusal pairRefusal objectRefusal
+unfolding crossing.stretches crossing.withSide crossing.withStretch crossing.meeting crossing.crossingOf sgn steps gcd gcdOf sideOf figureOf divided farRaw farEnd firstEnd lastEnd row-4 order turnPoly turn row-bytes row-objects writeGroups writeShape writeObject writeDrawing writeRefusal inTurn listRefusal readGroups readCoordinate readSide readPoint readTo readPair readShape readObject readObjects readCount readDrawing sideRefusal pairRefusal objectRefusal
 worked-rows = record {
   one = refl;
   two = refl;

@@ -1,13 +1,14 @@
 -- "Stored drawing" of document 01: what is written for a list of objects, and what is read of bytes. Definitions alone; their laws are
 -- in StoredLaws. Lists of objects are those of sheet/specs/Lists, and stored numbers those of number/specs/Number. Objects are stored over
 -- a form; PlainLaws says that document 01's stores each coordinate as it is.
-use mathlib.Core.Bool.{cond}
+use mathlib.Core.Bool.{Bool, true, cond, _&&_}
 use mathlib.Core.List.{List, [], _∷_, _++_}
 use Prim.Native.Nat.{ℕ, zero, suc, _+_, _*_}
 use lib.Dec.{ltb, eqb}
 use lib.IntN.{ℤ, pos, natAbs, _+ℤ_, _-ℤ_}
 use Rattle.whole.specs.Flag.{eqZ}
-use Rattle.whole.specs.InTurn.{allOf}
+use Rattle.whole.specs.Choice.{orElse}
+use Rattle.whole.specs.InTurn.{inTurn, allOf}
 use Rattle.sheet.specs.declared.Object.{Object}
 use Rattle.sheet.specs.Figure.{Vec, vec}
 use Rattle.sheet.specs.Limits.{most}
@@ -37,6 +38,10 @@ nought = vec (pos 0) (pos 0)
 abbrev pub originOf : Form → Vec → Vec
 originOf f p = vec (f .origin (p .x)) (f .origin (p .y))
 
+-- "The stored form of document 01 has no place for" a tag (document 02): the one that its objects have
+abbrev pub untagged : ℤ
+untagged = pos 0
+
 -- ---- writing
 
 -- a coordinate is counted from a start, and so is a point
@@ -64,9 +69,17 @@ writeObjects f n l = allOf (λ i. writeObject f (objectAt l i)) n
 unfoldable pub writeDrawing : List ℤ → List ℕ
 writeDrawing l = writeNumber (countOf l) ++ writeObjects plain (countOf l) l
 
--- what a list that is to be written is refused by, before 10
-abbrev pub writeRefusal : List ℤ → ℤ
-writeRefusal l = listRefusal l
+-- "tags that are all 0": those of the first n objects of a list
+abbrev pub allUntagged : List ℤ → ℕ → Bool
+allUntagged l n = inTurn _&&_ true (λ i. eqZ (objectAt l i .tag) untagged) n
+
+-- "16 a tag other than 0 written in the old form"
+abbrev pub tagsRefusal : List ℤ → ℤ
+tagsRefusal l = cond (allUntagged l (countOf l)) (pos 0) (pos 16)
+
+-- what a list that is to be written is refused by: 16 "after all objects and before 10"
+unfoldable pub writeRefusal : List ℤ → ℤ
+writeRefusal l = orElse (listRefusal l) (tagsRefusal l)
 
 -- ---- reading
 
@@ -74,9 +87,9 @@ writeRefusal l = listRefusal l
 unfoldable pub readCoordinate : ℤ → List ℕ → Reading ℤ
 readCoordinate start bs = next (readNumber bs) (λ n rest. checked (beyond (start +ℤ unzigzag n)) (pos 2) (start +ℤ unzigzag n) rest)
 
--- an object by what is stored of it
+-- an object by what is stored of it; of the tag, "reading gives 0"
 abbrev pub objectOf : ℤ → ℤ → ℤ → ℤ → ℤ → Object
-objectOf kind px py qx qy = record { kind = kind; px = px; py = py; qx = qx; qy = qy }
+objectOf kind px py qx qy = record { kind = kind; px = px; py = py; qx = qx; qy = qy; tag = untagged }
 
 -- "Kind 4, a whole frame side. px is its number .. The other three numbers are 0."
 abbrev pub sideObject : ℤ → Object

@@ -16,14 +16,14 @@ use Rattle.whole.specs.InTurn.{inTurn}
 use Rattle.whole.specs.Tests.{eqZ-false}
 use Rattle.sheet.specs.declared.Object.{Object}
 use Rattle.sheet.specs.Limits.{most}
-use Rattle.sheet.specs.Refusal.{Accepted}
 use Rattle.sheet.specs.Answers.{objectNumbers}
 use Rattle.sheet.specs.Lists.{width, countOf, objectAt}
 use Rattle.sheet.specs.ListsLaws.{listable, is-listable, object-next, numbers-first}
 use Rattle.number.specs.Number.{Reading, next, checked, writeNumber, Bytes}
 use Rattle.store.specs.Stored.{Form, plain, Drawing, refused, before, andThen, counted, writeObject, writeObjects, writeDrawing, writeRefusal, readObject, readObjects, readCount, readDrawing}
-use Rattle.store.specs.SureLaws.{Sure, not-nought, sure-object, sure-count}
+use Rattle.store.specs.SureLaws.{Sure, not-nought, Kept, sure-kept, sure-count}
 use Rattle.store.specs.SureLaws as sure
+use Rattle.store.specs.UntaggedLaws.{untagged-taken, taken-untagged}
 use Rattle.store.specs.ObjectsLaws.{objects-length}
 use Rattle.store.specs.ListLaws.{objects-first}
 use Rattle.number.specs.TripLaws.{behind-bytes, From, from, not, from-checked, number-back, number-from}
@@ -33,9 +33,9 @@ use Rattle.store.specs.ObjectTrip.{object-back, object-from}
 abbrev taken : List ℤ → Drawing
 taken l = record { objects = l; refusal = pos 0 }
 
--- the first n objects of a list are accepted
+-- the first n objects of a list are accepted, and their tags are 0
 abbrev Each : ℕ → List ℤ → Type 0
-Each n l = (i : ℕ) → i < n → Accepted (objectAt l i)
+Each n l = (i : ℕ) → i < n → Kept (objectAt l i)
 
 -- ---- written, and then read
 
@@ -46,25 +46,26 @@ objects-back sound zero (a ∷ l) e h = absurd (omega arith)
 objects-back {f} sound (suc n) l e h =
     let o = objectAt l 0 in
     let rest = drop width l in
-    let behind : Each n rest = λ i k. subst Accepted (sym (object-next l i)) (h (suc i) (omega arith)) in
+    let behind : Each n rest = λ i k. subst Kept (sym (object-next l i)) (h (suc i) (omega arith)) in
     ap (λ (bs : List ℕ). andThen (readObject f bs) (λ rest. readObjects f n rest)) (objects-first f n l)
-    ∙ ap (λ (r : Reading Object). andThen r (λ rest. readObjects f n rest)) (object-back sound o (writeObjects f n rest) (h 0 (omega arith) .accepted))
+    ∙ ap (λ (r : Reading Object). andThen r (λ rest. readObjects f n rest)) (object-back sound o (writeObjects f n rest) (h 0 (omega arith)))
     ∙ ap (before o) (objects-back sound n rest (omega (arith, length-drop width l)) behind)
     ∙ ap taken (numbers-first l (omega arith))
 
 pub read-written : (l : List ℤ) → writeRefusal l ≡ pos 0 → readDrawing (writeDrawing l) ≡ taken l
 unfolding readDrawing readCount writeDrawing
 read-written l h =
-    let f = listable l h in
+    let taken = taken-untagged l h in
+    let f = listable l (taken .0) in
     let n = countOf l in
     simp (number-back n (writeObjects plain n l) (omega (arith, f .few)), le-ltb most n (f .few))
-    (objects-back plain-sound n l (sym (f .whole)) (f .each))
+    (objects-back plain-sound n l (sym (f .whole)) (λ i k. (f .each i k, taken .1 .each i k)))
 
 -- ---- read, and then written
 
-each-next : (o : Object) (n : ℕ) (l : List ℤ) → Accepted o → Each n l → Each (suc n) (objectNumbers o ++ l)
+each-next : (o : Object) (n : ℕ) (l : List ℤ) → Kept o → Each n l → Each (suc n) (objectNumbers o ++ l)
 each-next o n l p h zero k = p
-each-next o n l p h (suc i) k = subst Accepted (object-next (objectNumbers o ++ l) i) (h i (omega arith))
+each-next o n l p h (suc i) k = subst Kept (object-next (objectNumbers o ++ l) i) (h i (omega arith))
 
 objects-from :
     (f : Form) (n : ℕ) (bs : List ℕ) → Bytes bs → readObjects f n bs .refusal ≡ pos 0
@@ -72,9 +73,9 @@ objects-from :
 unfolding readObjects inTurn
 objects-from f zero [] h e = (refl, λ i k. absurd (omega arith))
 objects-from f zero (b ∷ bs) h e = absurd (eqZ-false {a = pos 9} {b = pos 0} refl e)
-objects-from f (suc n) bs h e = go (object-from f bs h) (sure-object f bs) (objects-from f n) e
+objects-from f (suc n) bs h e = go (object-from f bs h) (sure-kept f bs) (objects-from f n) e
   where
-    go : {r : Reading Object} → From (writeObject f) bs r → Sure Accepted bs r
+    go : {r : Reading Object} → From (writeObject f) bs r → Sure Kept bs r
         → ((rest : List ℕ) → Bytes rest → readObjects f n rest .refusal ≡ pos 0
         → (writeObjects f n (readObjects f n rest .objects) ≡ rest) × Each n (readObjects f n rest .objects))
         → andThen r (λ rest. readObjects f n rest) .refusal ≡ pos 0
@@ -110,7 +111,10 @@ written-read bs h e = go (count-from bs h) (sure-count bs) e
         let count : countOf l ≡ n = omega arith in
         record {
           again = (λ i. writeNumber (count i) ++ writeObjects plain (count i) l) ∙ ap (λ (x : List ℕ). writeNumber n ++ x) (k .0) ∙ sym f;
-          accepted = is-listable l (record { whole = omega arith; few = omega arith; each = λ i b. k .1 i (omega arith) });
+          accepted =
+              untagged-taken l
+              (is-listable l (record { whole = omega arith; few = omega arith; each = λ i b. k .1 i (omega arith) .0 }))
+              (record { each = λ i b. k .1 i (omega arith) .1 });
         }
     go (not n) (sure.refused m z) e = absurd (eqZ-false (not-nought m z) e)
 

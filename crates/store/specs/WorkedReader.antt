@@ -47,7 +47,7 @@ pub record WorkedReader : Type 0 where
       × (map (itemOf (readDrawing (2 ∷ 4 ∷ 1 ∷ 4 ∷ 5 ∷ []))) (0 ∷ 1 ∷ 2 ∷ []) ≡ One (side (pos 1)) ∷ Refused (pos 4) ∷ Refused (pos 4) ∷ [])
   -- an object is told by 0 and its numbers, a refusal by its own alone
   said :
-      (itemSays (One (side (pos 3))) ≡ pos 0 ∷ pos 4 ∷ pos 3 ∷ pos 0 ∷ pos 0 ∷ pos 0 ∷ []) × (itemSays End ≡ [])
+      (itemSays (One (side (pos 3))) ≡ pos 0 ∷ pos 4 ∷ pos 3 ∷ pos 0 ∷ pos 0 ∷ pos 0 ∷ pos 0 ∷ []) × (itemSays End ≡ [])
       × (itemSays (Refused (pos 9)) ≡ pos 9 ∷ [])
 
 pub worked-reader : WorkedReader

@@ -9,9 +9,10 @@ use Rattle.whole.specs.InTurn.{inTurn}
 use Rattle.sheet.specs.Answers.{objectNumbers}
 use Rattle.sheet.specs.Refusal.{sideRefusal, pairRefusal, objectRefusal}
 use Rattle.sheet.specs.Lists.{listRefusal}
+use Rattle.sheet.specs.Tags.{tagged}
 use Rattle.sheet.specs.Cases.{minus, object, segment, ray, side}
 use Rattle.number.specs.Number.{got, writeGroups, readGroups}
-use Rattle.store.specs.Stored.{plain, writeShape, writeObject, writeDrawing, readCoordinate, readSide, readPoint, readTo, readPair, readShape, readObject, readObjects, readCount, readDrawing}
+use Rattle.store.specs.Stored.{plain, writeShape, writeObject, writeDrawing, writeRefusal, readCoordinate, readSide, readPoint, readTo, readPair, readShape, readObject, readObjects, readCount, readDrawing}
 use Rattle.store.specs.Answers.{readAnswer, readInto, writeAnswer, writeInto}
 
 -- the refusal of some bytes, and that of one object's bytes
@@ -33,7 +34,15 @@ abbrev twoSides : List ℕ
 twoSides = 2 ∷ 4 ∷ 1 ∷ 4 ∷ 2 ∷ []
 
 abbrev theirNumbers : List ℤ
-theirNumbers = pos 4 ∷ pos 1 ∷ pos 0 ∷ pos 0 ∷ pos 0 ∷ pos 4 ∷ pos 2 ∷ pos 0 ∷ pos 0 ∷ pos 0 ∷ []
+theirNumbers = pos 4 ∷ pos 1 ∷ pos 0 ∷ pos 0 ∷ pos 0 ∷ pos 0 ∷ pos 4 ∷ pos 2 ∷ pos 0 ∷ pos 0 ∷ pos 0 ∷ pos 0 ∷ []
+
+-- side 1, and side 2 with a tag
+abbrev oneTagged : List ℤ
+oneTagged = objectNumbers (side (pos 1)) ++ objectNumbers (tagged (pos 1) (side (pos 2)))
+
+-- refused by 15
+abbrev noTag : List ℤ
+noTag = objectNumbers (tagged (pos 2000001) (side (pos 1)))
 
 pub record WorkedStored : Type 0 where
   -- "First the count. Then each object: kind; for kinds 1 to 3 px, py, qx, qy ..; for kind 4 the plain side number."
@@ -71,23 +80,29 @@ pub record WorkedStored : Type 0 where
   bytes-after : (refusal (0 ∷ 0 ∷ []) ≡ pos 9) × (refusal (twoSides ++ (128 ∷ [])) ≡ pos 9)
   nine-after-the-last : (refusal (1 ∷ 4 ∷ 5 ∷ 0 ∷ []) ≡ pos 4) × (refusal (1 ∷ 3 ∷ 1 ∷ 1 ∷ 1 ∷ 1 ∷ 0 ∷ []) ≡ pos 3)
   -- ".. then 10." The number, the count, and the length, which 10 alone gives too
-  read-taken : readAnswer (readDrawing twoSides) (lent 10) ≡ record { refusal = pos 0; count = 2; length = 10 }
-  read-no-room : readAnswer (readDrawing twoSides) (lent 9) ≡ record { refusal = pos 10; count = 0; length = 10 }
+  read-taken : readAnswer (readDrawing twoSides) (lent 12) ≡ record { refusal = pos 0; count = 2; length = 12 }
+  read-no-room : readAnswer (readDrawing twoSides) (lent 11) ≡ record { refusal = pos 10; count = 0; length = 12 }
   nine-before-ten : readAnswer (readDrawing (twoSides ++ (0 ∷ []))) (lent 9) ≡ record { refusal = pos 9; count = 0; length = 0 }
   read-cells :
-      (readInto (readDrawing twoSides) (lent 12) ≡ theirNumbers ++ lent 2) × (readInto (readDrawing twoSides) (lent 9) ≡ lent 9)
-      × (readInto (readDrawing (twoSides ++ (0 ∷ []))) (lent 12) ≡ lent 12)
+      (readInto (readDrawing twoSides) (lent 14) ≡ theirNumbers ++ lent 2) × (readInto (readDrawing twoSides) (lent 11) ≡ lent 11)
+      × (readInto (readDrawing (twoSides ++ (0 ∷ []))) (lent 14) ≡ lent 14)
   written-taken : writeAnswer theirNumbers (lentBytes 5) ≡ record { refusal = pos 0; length = 5 }
   written-no-room : writeAnswer theirNumbers (lentBytes 4) ≡ record { refusal = pos 10; length = 5 }
   list-before-ten :
       (writeAnswer (theirNumbers ++ lent 1) (lentBytes 0) ≡ record { refusal = pos 14; length = 0 })
       × (writeAnswer (objectNumbers (object (pos 9) (pos 0) (pos 0) (pos 0) (pos 0))) (lentBytes 0) ≡ record { refusal = pos 1; length = 0 })
+  -- "16 a tag other than 0 written in the old form, after all objects and before 10"
+  tag-not-written : (writeAnswer oneTagged (lentBytes 5) ≡ record { refusal = pos 16; length = 0 }) × (writeInto oneTagged (lentBytes 7) ≡ lentBytes 7)
+  sixteen-before-ten : writeAnswer oneTagged (lentBytes 0) ≡ record { refusal = pos 16; length = 0 }
+  sixteen-after-all-objects :
+      (writeRefusal (oneTagged ++ noTag) ≡ pos 15) × (writeRefusal (oneTagged ++ objectNumbers (object (pos 9) (pos 0) (pos 0) (pos 0) (pos 0))) ≡ pos 1)
+      × (writeRefusal (oneTagged ++ lent 1) ≡ pos 14) × (writeRefusal oneTagged ≡ pos 16) × (writeRefusal theirNumbers ≡ pos 0)
   written-bytes :
       (writeInto theirNumbers (lentBytes 7) ≡ twoSides ++ lentBytes 2) × (writeInto theirNumbers (lentBytes 4) ≡ lentBytes 4)
       × (writeInto (theirNumbers ++ lent 1) (lentBytes 7) ≡ lentBytes 7)
 
 pub worked-stored : WorkedStored
-unfolding sideRefusal pairRefusal objectRefusal inTurn listRefusal writeGroups writeShape writeObject writeDrawing readGroups readCoordinate readSide readPoint readTo readPair readShape readObject readObjects readCount readDrawing readAnswer readInto writeAnswer writeInto
+unfolding sideRefusal pairRefusal objectRefusal inTurn listRefusal writeGroups writeShape writeObject writeDrawing writeRefusal readGroups readCoordinate readSide readPoint readTo readPair readShape readObject readObjects readCount readDrawing readAnswer readInto writeAnswer writeInto
 worked-stored = record {
   object-bytes = (refl, refl, refl);
   object-read = refl;
@@ -113,5 +128,8 @@ worked-stored = record {
   written-taken = refl;
   written-no-room = refl;
   list-before-ten = (refl, refl);
+  tag-not-written = (refl, refl);
+  sixteen-before-ten = refl;
+  sixteen-after-all-objects = (refl, refl, refl, refl, refl);
   written-bytes = (refl, refl, refl);
 }

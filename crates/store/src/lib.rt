@@ -19,6 +19,8 @@ mod writing; // writing.rt: the bytes of points and objects
 // The largest length of a drawing: the count in two bytes, and each object with its kind in one and four coordinates in two. Lent bytes that
 // are as many have room for every one.
 pub const LONGEST: usize = 2 + Object::MOST * 9;
+// The tag of every object of a drawing: document 01's form has no place for another.
+const UNTAGGED: i64 = 0;
 
 // What reading a drawing into a lent list answers.
 pub struct Read {
@@ -47,7 +49,7 @@ pub fn check_drawing(bytes: &[u8]) -> i64
     read_objects(read.value, &bytes[after..], &mut nowhere)
 }
 
-// The objects of a drawing, in order, at the front of a lent list: five numbers each.
+// The objects of a drawing, in order, at the front of a lent list: six numbers each.
 pub fn read_drawing(bytes: &[u8], out: &mut [i64]) -> Read
     ensures answer { λ r. ⌜ r ≡ readAnswer (readDrawing (now (bytes .entry))) (now (out .entry)) ⌝ }
     ensures cells { λ r. ⌜ now (out .exit) ≡ readInto (readDrawing (now (bytes .entry))) (now (out .entry)) ⌝ }

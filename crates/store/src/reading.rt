@@ -1,5 +1,6 @@
 // Reading: the point, the object or the count that bytes begin with, and the objects after the count. Each answer tells how many bytes were
 // taken, or the refusal; the rest of the slice is handed on to the next reading function.
+use crate::UNTAGGED;
 use number::Number;
 use number::read_number;
 use sheet::Object;
@@ -43,7 +44,7 @@ pub(crate) struct Part {
     pub size: usize,
 }
 
-// An object by what is stored of it.
+// An object by what is stored of it: in this form there is no tag.
 pub(crate) fn object_of(kind: i64, px: i64, py: i64, qx: i64, qy: i64) -> Object
     ensures { λ r. ⌜ r ≡ objectOf kind px py qx qy ⌝ }
 {
@@ -53,6 +54,7 @@ pub(crate) fn object_of(kind: i64, px: i64, py: i64, qx: i64, qy: i64) -> Object
         py,
         qx,
         qy,
+        tag: UNTAGGED,
     }
 }
 
@@ -257,7 +259,7 @@ pub(crate) fn read_count(bytes: &[u8]) -> Number
     }
 }
 
-// An object's five numbers, at a place of a list as far as it has cells.
+// An object's numbers, at a place of a list as far as it has cells.
 pub(crate) fn put_object(o: Object, out: &mut [i64], at: usize) -> usize
     ensures { λ r. ⌜ Wrote (now (out .entry)) (now (out .exit)) at r (objectNumbers o) ⌝ }
 {
@@ -266,7 +268,8 @@ pub(crate) fn put_object(o: Object, out: &mut [i64], at: usize) -> usize
     let py = o.py;
     let qx = o.qx;
     let qy = o.qy;
-    put_numbers(&[kind, px, py, qx, qy], out, at)
+    let tag = o.tag;
+    put_numbers(&[kind, px, py, qx, qy, tag], out, at)
 }
 
 // The refusal of bytes that are to hold count objects and nothing more; 0 for none. The objects, or those before the refusal, are put at the

@@ -1,9 +1,11 @@
 // Writing: the numbers that are stored for an object, and their bytes, put at a place of lent bytes as far as there are cells. Each function
 // gives the place behind, whether or not there is room: put into no bytes they are a count of them, so that an object is written in one place.
+use crate::UNTAGGED;
 use number::put_stored;
 use sheet::Object;
 use sheet::lists::list_refusal;
 use sheet::lists::object_at;
+use sheet::refusal::TAG_LOST;
 ghost use mathlib.Core.Path.{_≡_};
 ghost use Prim.Native.Nat.{_+_, _≤_};
 ghost use lib.IntN.{natAbs, _-ℤ_};
@@ -12,7 +14,7 @@ ghost use Rattle.sheet.specs.Lent.{Wrote};
 ghost use Rattle.sheet.specs.Lists.{countOf};
 ghost use Rattle.sheet.specs.Listable.{Listable};
 ghost use Rattle.number.specs.Number.{zigzag};
-ghost use Rattle.store.specs.Stored.{plain, writeObject, writeObjects, writeDrawing, writeRefusal};
+ghost use Rattle.store.specs.Stored.{plain, writeObject, writeObjects, writeDrawing, allUntagged, writeRefusal};
 ghost use Rattle.store.specs.Bounded.{Bounded, pairNumbers, sideNumbers};
 
 // How many numbers are stored for an object with two points, and for a side.
@@ -64,11 +66,34 @@ pub(crate) fn side_numbers(o: Object) -> [u64; SIDE]
     [kind, number]
 }
 
-// What a list that is to be written is refused by, before 10; 0 for none.
+// Whether no object of a list has a tag, for which this form has no place. It goes over all of them, with no way out between: so it takes
+// less time.
+fn all_untagged(list: &[i64]) -> bool
+    ensures { λ r. ⌜ r ≡ allUntagged (now (list .entry)) (countOf (now (list .entry))) ⌝ }
+{
+    let n = list.len() / Object::WIDTH;
+    let mut all = true;
+    let mut i = 0;
+    while i < n {
+        let o = object_at(list, i);
+        all = all & (o.tag == UNTAGGED);
+        i += 1;
+    }
+    all
+}
+
+// What a list that is to be written is refused by: the list's own, then 16; 0 for none.
 pub(crate) fn write_refusal(list: &[i64]) -> i64
     ensures { λ r. ⌜ r ≡ writeRefusal (now (list .entry)) ⌝ }
 {
-    list_refusal(list)
+    let no = list_refusal(list);
+    if no != 0 {
+        return no;
+    }
+    if all_untagged(list) {
+        return 0;
+    }
+    TAG_LOST
 }
 
 // Puts an object at a place, and gives the place behind it.

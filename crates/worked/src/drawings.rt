@@ -6,15 +6,18 @@ const UNTOUCHED: i64 = 7;
 
 const UNTOUCHED_BYTE: u8 = 7;
 
+// Room for one object, and one cell more.
+const ROOM: usize = Object::WIDTH + 1;
+
 // The numbers of one object more than a sheet has.
 pub const TOO_MANY: usize = (Object::MOST + 1) * Object::WIDTH;
 
 // The bytes of as many sides as a sheet has: the count in two, and a kind and a number each.
 const FULL: usize = 2 + Object::MOST * 2;
 
-// The answer, and the six cells of a lent list after the call: room for one object, and one cell more.
+// The answer, and the cells of a lent list after the call: room for one object, and one cell more.
 fn read(bytes: &[u8]) {
-    let mut list = [UNTOUCHED; 6];
+    let mut list = [UNTOUCHED; ROOM];
     let read = store::read_drawing(bytes, &mut list);
     say::number(read.refusal);
     say::count(read.count as u64);
@@ -25,7 +28,7 @@ fn read(bytes: &[u8]) {
 }
 
 // The answer, and four lent bytes after the call.
-fn write(list: &[i64]) {
+pub fn write(list: &[i64]) {
     let mut bytes = [UNTOUCHED_BYTE; 4];
     let written = store::write_drawing(list, &mut bytes);
     say::number(written.refusal);
@@ -90,18 +93,19 @@ pub fn limits() {
 
 pub fn writing() {
     say::text(b"write side 3");
-    write(&[4, 3, 0, 0, 0]);
+    write(&[4, 3, 0, 0, 0, 0]);
     say::text(b"write nothing");
     write(&[]);
-    say::text(b"write six numbers");
-    write(&[4, 3, 0, 0, 0, 1]);
+    say::text(b"write five numbers, seven numbers");
+    write(&[4, 3, 0, 0, 0]);
+    write(&[4, 3, 0, 0, 0, 0, 1]);
 }
 
 pub fn refused_writing() {
     say::text(b"write kind 9");
-    write(&[9, 0, 0, 0, 0]);
+    write(&[9, 0, 0, 0, 0, 0]);
     say::text(b"write a segment in four bytes");
-    write(&[1, 0, 0, 1, 1]);
+    write(&[1, 0, 0, 1, 1, 0]);
     let many = [4i64; TOO_MANY];
     say::text(b"write 513 objects");
     write(&many);

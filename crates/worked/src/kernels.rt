@@ -22,6 +22,7 @@ pub fn given(x: i64, y: i64) -> Point {
     pt(0, x, 0, y, 1)
 }
 
+// An object of tag 0.
 pub fn obj(kind: i64, px: i64, py: i64, qx: i64, qy: i64) -> Object {
     Object {
         kind,
@@ -29,6 +30,7 @@ pub fn obj(kind: i64, px: i64, py: i64, qx: i64, qy: i64) -> Object {
         py,
         qx,
         qy,
+        tag: 0,
     }
 }
 
@@ -54,26 +56,26 @@ pub fn numbers() {
 // Each kind is made. Coordinate 2,000 is taken and 2,001 refused, either way.
 pub fn makers() {
     say::text(b"segment to 2000 2000");
-    say::made(Object::segment(0, 0, 2000, 2000));
-    say::text(b"ray 1 2 through 3 4");
-    say::made(Object::ray(1, 2, 3, 4));
-    say::text(b"line 1 2 to 3 4");
-    say::made(Object::line(1, 2, 3, 4));
+    say::made(Object::segment(0, 0, 2000, 2000, 0));
+    say::text(b"ray 1 2 through 3 4 of tag 5");
+    say::made(Object::ray(1, 2, 3, 4, 5));
+    say::text(b"line 1 2 to 3 4 of tag 5");
+    say::made(Object::line(1, 2, 3, 4, 5));
     say::text(b"segment to 2001 0");
-    say::made(Object::segment(0, 0, 2001, 0));
+    say::made(Object::segment(0, 0, 2001, 0, 0));
     say::text(b"ray from 0 -2001");
-    say::made(Object::ray(0, -2001, 0, 0));
+    say::made(Object::ray(0, -2001, 0, 0, 0));
     say::text(b"line from the least");
-    say::made(Object::line(LEAST, 0, LARGEST, 0));
+    say::made(Object::line(LEAST, 0, LARGEST, 0, 0));
 }
 
 pub fn points_and_sides() {
     say::text(b"line from p to p");
-    say::made(Object::line(5, 6, 5, 6));
-    say::text(b"side 3");
-    say::made(Object::side(3));
+    say::made(Object::line(5, 6, 5, 6, 0));
+    say::text(b"side 3 of tag 5");
+    say::made(Object::side(3, 5));
     say::text(b"side 5");
-    say::made(Object::side(5));
+    say::made(Object::side(5, 0));
 }
 
 pub fn checks() {

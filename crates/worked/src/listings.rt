@@ -1,10 +1,11 @@
 // Listings, with the lent cells shown: room for one row and one cell more. A cell that holds 7 has not been touched.
 use crate::say;
 use listing::Listed;
+use sheet::lists::ROW_WIDTH;
 
 const UNTOUCHED: i64 = 7;
 
-const ROOM: usize = 9;
+const ROOM: usize = ROW_WIDTH + 1;
 
 fn answer(listed: Listed, rows: &[i64]) {
     say::number(listed.refusal);
@@ -29,21 +30,21 @@ fn one(list: &[i64], i: usize) {
 }
 
 pub fn every_pair() {
-    say::text(b"list segments 0 0 to 4 0 and 6 0 to 2 0");
-    all(&[1, 0, 0, 4, 0, 1, 6, 0, 2, 0]);
+    say::text(b"list segments 0 0 to 4 0 of tag 7 and 6 0 to 2 0");
+    all(&[1, 0, 0, 4, 0, 7, 1, 6, 0, 2, 0, 0]);
     say::text(b"list a line, a segment and side 3");
-    all(&[3, 0, 0, 2, 1, 1, 0, 2, 2, 0, 4, 3, 0, 0, 0]);
+    all(&[3, 0, 0, 2, 1, 0, 1, 0, 2, 2, 0, 0, 4, 3, 0, 0, 0, 0]);
     say::text(b"list kind 9");
-    all(&[9, 0, 0, 0, 0]);
+    all(&[9, 0, 0, 0, 0, 0]);
 }
 
 pub fn one_object() {
-    say::text(b"list side 3 of sides 1, 3 and 4");
-    one(&[4, 1, 0, 0, 0, 4, 3, 0, 0, 0, 4, 4, 0, 0, 0], 1);
+    say::text(b"list side 3 of sides 1, 3 and 4 of tags 1, 3 and 4");
+    one(&[4, 1, 0, 0, 0, 1, 4, 3, 0, 0, 0, 3, 4, 4, 0, 0, 0, 4], 1);
     say::text(b"list the first of three equal sides");
-    one(&[4, 2, 0, 0, 0, 4, 2, 0, 0, 0, 4, 2, 0, 0, 0], 0);
+    one(&[4, 2, 0, 0, 0, 0, 4, 2, 0, 0, 0, 0, 4, 2, 0, 0, 0, 0], 0);
     say::text(b"list object 2 of two objects");
-    one(&[1, 0, 0, 4, 0, 1, 6, 0, 2, 0], 2);
+    one(&[1, 0, 0, 4, 0, 0, 1, 6, 0, 2, 0, 0], 2);
     say::text(b"list object 2 of kind 9");
-    one(&[9, 0, 0, 0, 0], 2);
+    one(&[9, 0, 0, 0, 0, 0], 2);
 }

@@ -5,6 +5,7 @@ mod kernels;
 mod listings;
 mod say;
 mod screens;
+mod tags;
 
 fn main() {
     kernels::numbers();
@@ -32,6 +33,10 @@ fn main() {
     drawings::refused_writing();
     listings::every_pair();
     listings::one_object();
+    tags::makers();
+    tags::nothing_else();
+    tags::refusals();
+    tags::writing();
     screens::edges();
     screens::corners();
     screens::every_end();

@@ -62,6 +62,7 @@ pub fn object(o: Object) {
     number(o.py);
     number(o.qx);
     number(o.qy);
+    number(o.tag);
 }
 
 pub fn made(m: Made) {

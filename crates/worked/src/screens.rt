@@ -137,16 +137,16 @@ pub fn points() {
 
 pub fn boxes() {
     say::text(b"box of segment 1 2 to -3 4 and ray 7 -8 through 9 10");
-    boxed(&[1, 1, 2, -3, 4, 2, 7, -8, 9, 10]);
+    boxed(&[1, 1, 2, -3, 4, 0, 2, 7, -8, 9, 10, 5]);
     say::text(b"box of a line and a side, of nothing");
-    boxed(&[3, 100, 100, 200, 300, 4, 1, 0, 0, 0]);
+    boxed(&[3, 100, 100, 200, 300, 0, 4, 1, 0, 0, 0, 0]);
     boxed(&[]);
 }
 
 pub fn refused_boxes() {
-    say::text(b"box of six numbers, of p equal to q, of 513 objects");
-    boxed(&[4, 3, 0, 0, 0, 1]);
-    boxed(&[4, 3, 0, 0, 0, 1, 5, 6, 5, 6]);
+    say::text(b"box of seven numbers, of p equal to q, of 513 objects");
+    boxed(&[4, 3, 0, 0, 0, 0, 1]);
+    boxed(&[4, 3, 0, 0, 0, 0, 1, 5, 6, 5, 6, 0]);
     let many = [4i64; TOO_MANY];
     boxed(&many);
 }

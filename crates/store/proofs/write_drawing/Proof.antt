@@ -11,8 +11,10 @@ use lib.ListN.{length}
 use Rattle.sheet.specs.AnswersLaws.{not-refused}
 use Rattle.sheet.specs.Lent.{Wrote}
 use Rattle.sheet.specs.LentLaws.{refused, short, done, clipped-is, wrote-size, wrote-front}
+use Rattle.sheet.specs.Listable.{Listable}
 use Rattle.sheet.specs.ListsLaws.{listable}
 use Rattle.store.specs.Stored.{writeDrawing, writeRefusal}
+use Rattle.store.specs.UntaggedLaws.{taken-untagged}
 use Rattle.store.specs.AnswersLaws.{write-ends}
 use Rattle.store.specs.LongestLaws.{write-no-longer}
 use Rattle.store.proofs.write_drawing.Statement.{statement}
@@ -24,16 +26,19 @@ returns c =
     let r = c .before .write-refusal in
     write-ends (s .args .list .now) (s .args .out .now) (refused (r .ok) (r .ensures) (c .if1 .taken))
 
--- the list is accepted
+-- the list is not refused
 taken : (c : tie.Else1) → writeRefusal (c .before .before .before .args .list .now) ≡ pos 0
 taken c = let r = c .before .write-refusal in not-refused (r .ok) (r .ensures) (c .if1 .left)
+
+accepted : (c : tie.Else1) → Listable (c .before .before .before .args .list .now)
+accepted c = let list = c .before .before .before .args .list .now in listable list (taken-untagged list (taken c) .0)
 
 -- what was put tells the length of the drawing
 long : (list : List ℤ) {d d′ : List ℕ} {size : ℕ} → writeRefusal list ≡ pos 0 → Wrote d d′ 0 size (writeDrawing list) → size ≡ length (writeDrawing list)
 long list z w = wrote-size w ∙ clipped-is (omega (arith, write-no-longer list z))
 
 write-all-requires : tie.Need-write-all-requires
-write-all-requires c κs = listable (c .before .before .before .before .before .args .list .now) (taken (c .before .before))
+write-all-requires c κs = accepted (c .before .before)
 
 returns-2 : tie.Need-returns-2
 returns-2 c =
@@ -43,7 +48,7 @@ returns-2 c =
     write-ends (s .args .list .now) (s .args .out .now) (short z (omega (arith, c .if3 .taken)) size)
 
 write-all-requires-2 : tie.Need-write-all-requires-2
-write-all-requires-2 c κs = listable (c .before .before .before .before .before .args .list .now) (taken (c .before .before))
+write-all-requires-2 c κs = accepted (c .before .before)
 
 returns-3 : tie.Need-returns-3
 returns-3 c =

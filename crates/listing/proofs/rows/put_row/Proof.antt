@@ -1,16 +1,17 @@
 -- `put_row` meets its contract: in each arm, what the two share, by the law of its row.
 use mathlib.Core.Path.{_≡_, sym, ap, subst, _∙_}
-use mathlib.Core.List.{_∷_}
+use mathlib.Core.List.{[], _∷_, _++_}
 use native.Mathlib.Omega.{arith}
 use lib.IntN.{pos}
-use Rattle.sheet.specs.declared.Point.{Point}
+use Rattle.whole.specs.Tests.{out, out-ok, Fit}
+use Rattle.sheet.specs.declared.Object.{Object}
 use Rattle.sheet.specs.Points.{numbers}
 use Rattle.sheet.specs.Refusal.{Accepted}
 use Rattle.sheet.specs.Crossing.{crossingOf}
 use Rattle.sheet.specs.LentLaws.{wrote-none, wrote-as}
 use Rattle.sheet.specs.Meetings.{meetingBy}
 use Rattle.kernel.proofs.Handed as handed
-use Rattle.listing.specs.Rows.{meetingOf}
+use Rattle.listing.specs.Rows.{meetingOf, tagsOf}
 use Rattle.listing.specs.RowsLaws.{row-once, row-many, row-none}
 use borrow.Author.Needs.{needs}
 use Rattle.listing.proofs.rows.put_row.Statement.{statement}
@@ -29,34 +30,56 @@ met : (c : tie.After-meet) → let s = c .before .before in meetingBy (c .meet .
 unfolding meetingOf
 met c = c .meet .ensures ∙ (λ k. crossingOf (c .before .before .pre .1 k) (c .before .object-at .ensures k))
 
+-- their tags, as they are handed on
+tags :
+    (c : tie.After-object-at) →
+    let a = c .before .args .a in
+    let b = c .object-at .result in
+    Fit (a .tag) → Fit (b .tag) → out (a .tag) ∷ out (b .tag) ∷ [] ≡ tagsOf (c .before .args .list .now) (c .before .args .i) (c .before .args .j)
+tags c f g =
+    let a = c .before .args .a in
+    let b = c .object-at .result in
+    let e = out-ok (a .tag) f ∙ ap (λ (o : Object). o .tag) (c .before .pre .1) in
+    let h = out-ok (b .tag) g ∙ ap (λ (o : Object). o .tag) (c .object-at .ensures) in
+    λ k. e k ∷ h k ∷ []
+
 write-row-requires : tie.Need-write-row-requires
 write-row-requires c κs =
-    let s = c .before .before .before .before .before .before .before .before .before .before .before in
+    let s = c .before .before .before .before .before .before .before .before .before .before .before .before .before in
     (omega (arith, s .pre .0 .list .few, s .pre .0 .one), omega (arith, s .pre .0 .list .few, s .pre .0 .two))
 
 returns : tie.Need-returns
 returns c =
     let w = c .before .write-row in
-    let k = c .before .before .before .before .before .before .before .before in
-    let s = k .before .before .before .before .before in
-    let t = c .before .before .before .before .before .before .struct-told .given in
+    let second = c .before .before in
+    let first = second .before in
+    let point = first .before .before .before .before .before in
+    let k = point .before .before in
+    let taken = k .before .before .before .before in
+    let s = taken .before in
     let e = k .before .p .given in
-    let same = handed.point-told (e .0 .0) t in
+    let same = handed.point-told (e .0 .0) (point .struct-told .given) in
+    let both = tags taken (first .struct-told6 .given .1 .1 .1 .1 .1 .0 .1) (second .struct-told7 .given .1 .1 .1 .1 .1 .0 .1) in
     wrote-as (w .ensures)
-    (ap (λ (q : Point). pos (s .args .i) ∷ pos (s .args .j) ∷ pos 1 ∷ numbers q) same
+    ((λ k. pos (s .args .i) ∷ pos (s .args .j) ∷ pos 1 ∷ (numbers (same k) ++ both k))
     ∙ row-once (s .args .list .now) (s .args .i) (s .args .j) (sym (ap meetingBy (e .1)) ∙ met (k .before .before .before)))
 
 write-row-requires-2 : tie.Need-write-row-requires-2
 write-row-requires-2 c κs =
-    let s = c .before .before .before .before .before in
+    let s = c .before .before .before .before .before .before .before in
     (omega (arith, s .pre .0 .list .few, s .pre .0 .one), omega (arith, s .pre .0 .list .few, s .pre .0 .two))
 
 returns-2 : tie.Need-returns-2
 returns-2 c =
-    let k = c .before .before .before in
-    let s = k .before .before .before .before in
+    let second = c .before .before in
+    let first = second .before in
+    let k = first .before .before in
+    let taken = k .before .before .before in
+    let s = taken .before in
+    let both = tags taken (first .struct-told8 .given .1 .1 .1 .1 .1 .0 .1) (second .struct-told9 .given .1 .1 .1 .1 .1 .0 .1) in
     wrote-as (c .before .write-row2 .ensures)
-    (row-many (s .args .list .now) (s .args .i) (s .args .j) (sym (ap meetingBy (k .enum-told .given .1)) ∙ met (k .before .before)))
+    ((λ k. pos (s .args .i) ∷ pos (s .args .j) ∷ pos 2 ∷ pos 0 ∷ pos 0 ∷ pos 0 ∷ pos 0 ∷ pos 0 ∷ both k)
+    ∙ row-many (s .args .list .now) (s .args .i) (s .args .j) (sym (ap meetingBy (k .enum-told .given .1)) ∙ met (k .before .before)))
 
 returns-3 : tie.Need-returns-3
 returns-3 c =

@@ -1,4 +1,4 @@
--- `write_row` meets its contract: the eight numbers come out of the array as they went in.
+-- `write_row` meets its contract: the ten numbers come out of the array as they went in.
 use mathlib.Core.List.{[], _∷_}
 use native.Mathlib.Nat.{lt-trans}
 use lib.Dec.{lit<}
@@ -17,7 +17,7 @@ returns c =
     let two = toZ-pos w64 {n = s .args .j} (lt-trans (s .pre .1) (lit< tt)) in
     let f = s .fits in
     wrote-as (c .before .put-numbers .ensures)
-    (λ k. one k ∷ two k ∷ out-is (f .how) k ∷ out-is (f .mx) k ∷ out-is (f .nx) k ∷ out-is (f .my) k ∷ out-is (f .ny) k ∷ out-is (f .w) k ∷ [])
+    (λ k. one k ∷ two k ∷ out-is (f .how) k ∷ out-is (f .mx) k ∷ out-is (f .nx) k ∷ out-is (f .my) k ∷ out-is (f .ny) k ∷ out-is (f .w) k ∷ out-is (f .ti) k ∷ out-is (f .tj) k ∷ [])
 
 pub write-row-spec : {M : Type 1} → statement M
 write-row-spec =

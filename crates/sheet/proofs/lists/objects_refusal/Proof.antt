@@ -8,16 +8,16 @@ use Rattle.whole.specs.InTurn.{inTurn}
 use Rattle.whole.specs.Tests.{fits-ok, out-is, eq-left}
 use Rattle.sheet.specs.AnswersLaws.{not-refused}
 use Rattle.sheet.specs.Refusal.{objectRefusal}
-use Rattle.sheet.specs.Lists.{objectsRefusal}
+use Rattle.sheet.specs.Lists.{countOf, objectsRefusal}
 use Rattle.sheet.specs.ListsLaws.{one-accepted, one-refused}
 use Rattle.sheet.proofs.lists.objects_refusal.Statement.{statement}
 use Rattle.sheet.proofs.lists.objects_refusal.Tie as tie
 
 abbrev Inv-loop : tie.InvT-loop
-Inv-loop list n i₀ i = (i ≤ n) × (objectsRefusal list i ≡ pos 0)
+Inv-loop list n i₀ i = (i ≤ countOf list) × (objectsRefusal list i ≡ pos 0)
 
 abbrev μ-loop : tie.MeasureT-loop
-μ-loop list n i₀ i = n - i
+μ-loop list n i₀ i = countOf list - i
 
 loop-holds : tie.Need-loop-holds Inv-loop μ-loop
 unfolding inTurn
@@ -30,7 +30,7 @@ returns c =
     let r = c .before .object-refusal in
     let is = r .ensures .0 ∙ ap objectRefusal (c .before .before .object-at .ensures) in
     out-is (fits-ok (r .result) (r .ok)) ∙ is
-    ∙ one-refused l (at .loop .i) (at .loop .inv .1) (at .before .args .n) (omega arith) (λ z. eq-left {x = r .result} {y = pos 0} (c .if1 .taken) (is ∙ z))
+    ∙ one-refused l (at .loop .i) (at .loop .inv .1) (countOf l) (omega arith) (λ z. eq-left {x = r .result} {y = pos 0} (c .if1 .taken) (is ∙ z))
 
 loop-again : tie.Need-loop-again Inv-loop μ-loop
 loop-again c =
@@ -43,8 +43,9 @@ loop-again c =
 returns-2 : tie.Need-returns-2 Inv-loop μ-loop
 returns-2 c =
     let at = c .before in
-    let done : at .loop .i ≡ at .before .args .n = omega arith in
-    sym (ap (objectsRefusal (at .before .args .list .now)) (sym done) ∙ at .loop .inv .1)
+    let l = at .before .args .list .now in
+    let done : at .loop .i ≡ countOf l = omega arith in
+    sym (ap (objectsRefusal l) (sym done) ∙ at .loop .inv .1)
 
 pub objects-refusal-spec : {M : Type 1} → statement M
 objects-refusal-spec =

@@ -1,4 +1,4 @@
--- `put_object` meets its contract: its five numbers are put, as the object has them.
+-- `put_object` meets its contract: its numbers are put, as the object has them.
 use borrow.Author.Needs.{needs}
 use mathlib.Core.List.{[], _∷_}
 use Rattle.whole.specs.Tests.{out-ok}
@@ -8,14 +8,16 @@ use Rattle.store.proofs.reading.put_object.Tie as tie
 
 returns : tie.Need-returns
 returns c =
-    let o = c .before .before .before .before .before .before .before .before .before .args .o in
-    let told = c .before .before .before .before .before .before .before .before .struct-told .given in
+    let first = c .before .before .before .before .before .before .before .before .before in
+    let o = first .before .args .o in
+    let told = first .struct-told .given in
     wrote-as (c .before .put-numbers .ensures)
     (λ i. out-ok (o .kind) (told .0 .1) i
     ∷ out-ok (o .px) (told .1 .0 .1) i
     ∷ out-ok (o .py) (told .1 .1 .0 .1) i
     ∷ out-ok (o .qx) (told .1 .1 .1 .0 .1) i
     ∷ out-ok (o .qy) (told .1 .1 .1 .1 .0 .1) i
+    ∷ out-ok (o .tag) (told .1 .1 .1 .1 .1 .0 .1) i
     ∷ [])
 
 pub put-object-spec : {M : Type 1} → statement M
