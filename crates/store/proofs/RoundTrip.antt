@@ -22,10 +22,10 @@ use Rattle.sheet.specs.LentLaws.{filled-front}
 use Rattle.sheet.specs.Lists.{countOf, listRefusal}
 use Rattle.store.specs.declared.Read.{Read}
 use Rattle.store.specs.declared.Written.{Written}
-use Rattle.store.specs.Stored.{Drawing, readDrawing, writeDrawing, writeRefusal}
+use Rattle.store.specs.Stored.{Drawing, readDrawing, writeDrawing, writeRefusal, Untagged}
 use Rattle.store.specs.Answers.{readAnswer, readInto, writeAnswer, writeInto}
 use Rattle.number.specs.Number.{Bytes}
-use Rattle.store.specs.UntaggedLaws.{Untagged, untagged-taken, taken-untagged, tagged-refused}
+use Rattle.store.specs.UntaggedLaws.{untagged-taken, taken-untagged, tagged-refused}
 use Rattle.store.specs.StoredLaws.{written-read, read-written}
 use Rattle.store.proofs.read_drawing.Reads as read-drawing
 use Rattle.store.proofs.write_drawing.Reads as write-drawing

@@ -27,7 +27,7 @@ use Rattle.number.specs.Number.{limit, writeGroups, zigzag, Reading, got, no, n
 use Rattle.number.specs.ZigzagLaws.{zigzag-unzigzag}
 use Rattle.number.specs.SameLaws.{Same, on, off, same-next, same-checked, same-cond, same-weak, same-take}
 use Rattle.store.specs.Stored.{Form, plain, untagged, Drawing, nought, originOf, longest, andThen, counted, before, writeDrawing, writeRefusal, readCoordinate, sideObject, readSide, readPoint, readTo, readPair, readShape, readObject, readObjects, readCount, readDrawing, writeShape, writeObject, writeObjects}
-use Rattle.store.specs.SureLaws.{Sure, Kept, not-nought, sure-point, sure-object, sure-count}
+use Rattle.store.specs.SureLaws.{Sure, Plain, not-nought, sure-point, sure-object, sure-count}
 use Rattle.store.specs.UntaggedLaws.{untagged-taken}
 use Rattle.store.specs.SureLaws as sure
 use Rattle.store.specs.ListLaws.{objects-first}
@@ -193,11 +193,11 @@ unfolding longSegments
 segments-many zero = refl
 segments-many (suc n) = omega (arith, segments-many n)
 
-segments-taken : (n i : ℕ) → i < n → Kept (objectAt (longSegments n) i)
+segments-taken : (n i : ℕ) → i < n → Plain (objectAt (longSegments n) i)
 unfolding longSegments objectRefusal pairRefusal
 segments-taken zero i h = absurd (omega arith)
 segments-taken (suc n) zero h = (record { accepted = refl }, refl)
-segments-taken (suc n) (suc i) h = subst Kept (object-next (longSegments (suc n)) i) (segments-taken n i (omega arith))
+segments-taken (suc n) (suc i) h = subst Plain (object-next (longSegments (suc n)) i) (segments-taken n i (omega arith))
 
 segments-long : (n : ℕ) → length (writeObjects plain n (longSegments n)) ≡ n * 9
 unfolding longSegments inTurn writeObject writeShape writeGroups

@@ -19,7 +19,7 @@ use Rattle.sheet.specs.Flags.{neither, isnt-not, cond-zero}
 use Rattle.number.specs.Number.{Reading, got, no, next, checked, writeNumber, Bytes}
 use Rattle.store.specs.Stored.{Form, nought, originOf, writePoint, writePair, writeShape, writeObject, objectOf, sideObject, readSide, readTo, readPair, readShape, readObject}
 use Rattle.number.specs.TripLaws.{behind-bytes, From, from, not, from-checked, number-back, number-from}
-use Rattle.store.specs.SureLaws.{Kept}
+use Rattle.store.specs.SureLaws.{Plain}
 use Rattle.store.specs.Trip.{InReach, point-back, point-from, Sound, near-nought, near-origin}
 
 -- ---- what refusal 0 says, as flags
@@ -98,7 +98,7 @@ module _ {f : Form} (sound : Sound f) where
       go false y h = pair-back kind px py qx qy rest h
 
   -- of the tag nothing is written
-  pub object-back : (o : Object) (rest : List ℕ) → Kept o → readObject f (writeObject f o ++ rest) ≡ got o rest
+  pub object-back : (o : Object) (rest : List ℕ) → Plain o → readObject f (writeObject f o ++ rest) ≡ got o rest
   unfolding readObject writeObject
   object-back o rest h =
       let five = by-numbers (h .0) in

@@ -1,9 +1,10 @@
 -- "Stored drawing" of document 01: what is written for a list of objects, and what is read of bytes. Definitions alone; their laws are
 -- in StoredLaws. Lists of objects are those of sheet/specs/Lists, and stored numbers those of number/specs/Number. Objects are stored over
 -- a form; PlainLaws says that document 01's stores each coordinate as it is.
+use mathlib.Core.Path.{_≡_}
 use mathlib.Core.Bool.{Bool, true, cond, _&&_}
 use mathlib.Core.List.{List, [], _∷_, _++_}
-use Prim.Native.Nat.{ℕ, zero, suc, _+_, _*_}
+use Prim.Native.Nat.{ℕ, zero, suc, _+_, _*_, _<_}
 use lib.Dec.{ltb, eqb}
 use lib.IntN.{ℤ, pos, natAbs, _+ℤ_, _-ℤ_}
 use Rattle.whole.specs.Flag.{eqZ}
@@ -69,7 +70,10 @@ writeObjects f n l = allOf (λ i. writeObject f (objectAt l i)) n
 unfoldable pub writeDrawing : List ℤ → List ℕ
 writeDrawing l = writeNumber (countOf l) ++ writeObjects plain (countOf l) l
 
--- "tags that are all 0": those of the first n objects of a list
+-- "tags that are all 0": of a list; and as a flag, of its first n objects
+pub record Untagged (l : List ℤ) : Type 0 where
+  pub each : (i : ℕ) → i < countOf l → objectAt l i .tag ≡ untagged
+
 abbrev pub allUntagged : List ℤ → ℕ → Bool
 allUntagged l n = inTurn _&&_ true (λ i. eqZ (objectAt l i .tag) untagged) n
 

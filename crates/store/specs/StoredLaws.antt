@@ -21,7 +21,7 @@ use Rattle.sheet.specs.Lists.{width, countOf, objectAt}
 use Rattle.sheet.specs.ListsLaws.{listable, is-listable, object-next, numbers-first}
 use Rattle.number.specs.Number.{Reading, next, checked, writeNumber, Bytes}
 use Rattle.store.specs.Stored.{Form, plain, Drawing, refused, before, andThen, counted, writeObject, writeObjects, writeDrawing, writeRefusal, readObject, readObjects, readCount, readDrawing}
-use Rattle.store.specs.SureLaws.{Sure, not-nought, Kept, sure-kept, sure-count}
+use Rattle.store.specs.SureLaws.{Sure, not-nought, Plain, sure-plain, sure-count}
 use Rattle.store.specs.SureLaws as sure
 use Rattle.store.specs.UntaggedLaws.{untagged-taken, taken-untagged}
 use Rattle.store.specs.ObjectsLaws.{objects-length}
@@ -35,7 +35,7 @@ taken l = record { objects = l; refusal = pos 0 }
 
 -- the first n objects of a list are accepted, and their tags are 0
 abbrev Each : ℕ → List ℤ → Type 0
-Each n l = (i : ℕ) → i < n → Kept (objectAt l i)
+Each n l = (i : ℕ) → i < n → Plain (objectAt l i)
 
 -- ---- written, and then read
 
@@ -46,7 +46,7 @@ objects-back sound zero (a ∷ l) e h = absurd (omega arith)
 objects-back {f} sound (suc n) l e h =
     let o = objectAt l 0 in
     let rest = drop width l in
-    let behind : Each n rest = λ i k. subst Kept (sym (object-next l i)) (h (suc i) (omega arith)) in
+    let behind : Each n rest = λ i k. subst Plain (sym (object-next l i)) (h (suc i) (omega arith)) in
     ap (λ (bs : List ℕ). andThen (readObject f bs) (λ rest. readObjects f n rest)) (objects-first f n l)
     ∙ ap (λ (r : Reading Object). andThen r (λ rest. readObjects f n rest)) (object-back sound o (writeObjects f n rest) (h 0 (omega arith)))
     ∙ ap (before o) (objects-back sound n rest (omega (arith, length-drop width l)) behind)
@@ -63,9 +63,9 @@ read-written l h =
 
 -- ---- read, and then written
 
-each-next : (o : Object) (n : ℕ) (l : List ℤ) → Kept o → Each n l → Each (suc n) (objectNumbers o ++ l)
+each-next : (o : Object) (n : ℕ) (l : List ℤ) → Plain o → Each n l → Each (suc n) (objectNumbers o ++ l)
 each-next o n l p h zero k = p
-each-next o n l p h (suc i) k = subst Kept (object-next (objectNumbers o ++ l) i) (h i (omega arith))
+each-next o n l p h (suc i) k = subst Plain (object-next (objectNumbers o ++ l) i) (h i (omega arith))
 
 objects-from :
     (f : Form) (n : ℕ) (bs : List ℕ) → Bytes bs → readObjects f n bs .refusal ≡ pos 0
@@ -73,9 +73,9 @@ objects-from :
 unfolding readObjects inTurn
 objects-from f zero [] h e = (refl, λ i k. absurd (omega arith))
 objects-from f zero (b ∷ bs) h e = absurd (eqZ-false {a = pos 9} {b = pos 0} refl e)
-objects-from f (suc n) bs h e = go (object-from f bs h) (sure-kept f bs) (objects-from f n) e
+objects-from f (suc n) bs h e = go (object-from f bs h) (sure-plain f bs) (objects-from f n) e
   where
-    go : {r : Reading Object} → From (writeObject f) bs r → Sure Kept bs r
+    go : {r : Reading Object} → From (writeObject f) bs r → Sure Plain bs r
         → ((rest : List ℕ) → Bytes rest → readObjects f n rest .refusal ≡ pos 0
         → (writeObjects f n (readObjects f n rest .objects) ≡ rest) × Each n (readObjects f n rest .objects))
         → andThen r (λ rest. readObjects f n rest) .refusal ≡ pos 0

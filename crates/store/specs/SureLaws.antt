@@ -1,8 +1,8 @@
 -- What each reading is: what was read has P and some bytes in front of the rest, or the refusal is one of stored bytes. To cite:
 --   Sure, Any       such a reading; P that holds of all
---   Kept            an accepted object of tag 0
+--   Plain           an accepted object of tag 0
 --   not-nought      such a refusal is not 0
---   sure-number, sure-coordinate, sure-point, sure-kept, sure-object, sure-count   each reading is so
+--   sure-number, sure-coordinate, sure-point, sure-plain, sure-object, sure-count   each reading is so
 -- Assumes nothing.
 use mathlib.Core.Path.{_≡_, refl, sym, ap, _∙_}
 use mathlib.Core.Bool.{Bool, true, false, cond, true≢false}
@@ -79,41 +79,41 @@ sure-point start bs =
 
 -- ---- objects
 
-abbrev pub Kept : Object → Type 0
-Kept o = Accepted o × (o .tag ≡ untagged)
+abbrev pub Plain : Object → Type 0
+Plain o = Accepted o × (o .tag ≡ untagged)
 
-sure-side : (bs : List ℕ) → Sure Kept bs (readSide bs)
+sure-side : (bs : List ℕ) → Sure Plain bs (readSide bs)
 unfolding readSide objectRefusal sideRefusal
 sure-side bs =
     sure-next (sure-number bs)
     (λ n rest u. sure-checked (outside (pos 1) (pos 4) (pos n)) 4 _ rest refl (λ e. (record { accepted = simp e }, refl)))
 
 module _ (f : Form) (kind : ℕ) (in-range : outside (pos 1) (pos 4) (pos kind) ≡ false) (other : eqb kind 4 ≡ false) where
-  sure-to : (p : Vec) (bs : List ℕ) → NotBeyond p → Sure Kept bs (readTo f kind p bs)
+  sure-to : (p : Vec) (bs : List ℕ) → NotBeyond p → Sure Plain bs (readTo f kind p bs)
   unfolding readTo objectRefusal pairRefusal
   sure-to p bs h =
       sure-next (sure-point (originOf f p) bs)
       (λ q rest k. sure-checked (equal (p .x) (p .y) (q .x) (q .y)) 3 _ rest refl
       (λ e. (record { accepted = simp (in-range, other, h .0, h .1, k .0, k .1, e) }, refl)))
 
-  sure-pair : (bs : List ℕ) → Sure Kept bs (readPair f kind bs)
+  sure-pair : (bs : List ℕ) → Sure Plain bs (readPair f kind bs)
   unfolding readPair
   sure-pair bs = sure-next (sure-point nought bs) (λ p rest h. sure-to p rest h)
 
-sure-shape : (f : Form) (kind : ℕ) (bs : List ℕ) → outside (pos 1) (pos 4) (pos kind) ≡ false → Sure Kept bs (readShape f kind bs)
+sure-shape : (f : Form) (kind : ℕ) (bs : List ℕ) → outside (pos 1) (pos 4) (pos kind) ≡ false → Sure Plain bs (readShape f kind bs)
 unfolding readShape
 sure-shape f kind bs e = sure-cond (eqb kind 4) (sure-side bs) (λ z. sure-pair f kind e z bs)
 
-pub sure-kept : (f : Form) (bs : List ℕ) → Sure Kept bs (readObject f bs)
+pub sure-plain : (f : Form) (bs : List ℕ) → Sure Plain bs (readObject f bs)
 unfolding readObject
-sure-kept f bs =
+sure-plain f bs =
     sure-next (sure-number bs)
     (λ kind rest u. sure-cond (outside (pos 1) (pos 4) (pos kind)) (refused 1 refl) (λ e. sure-shape f kind rest e))
 
 pub sure-object : (f : Form) (bs : List ℕ) → Sure Accepted bs (readObject f bs)
-sure-object f bs = go (sure-kept f bs)
+sure-object f bs = go (sure-plain f bs)
   where
-    go : {r : Reading Object} → Sure Kept bs r → Sure Accepted bs r
+    go : {r : Reading Object} → Sure Plain bs r → Sure Accepted bs r
     go (read o front rest e k) = read o front rest e (k .0)
     go (refused n z) = refused n z
 

@@ -1,5 +1,4 @@
 -- Which lists of objects document 01's form takes: those whose tags are all 0. To cite:
---   Untagged                         every tag of a list is 0
 --   untagged-taken, taken-untagged   an accepted list whose tags are all 0 is not refused for writing, and only such a list is not
 --   tagged-refused                   an accepted list is not refused for writing, or refused by 16
 -- Assumes nothing.
@@ -17,10 +16,7 @@ use Rattle.whole.specs.ChoiceLaws.{or-zero, or-next}
 use Rattle.sheet.specs.AcceptsLaws.{passed}
 use Rattle.sheet.specs.Flags.{both}
 use Rattle.sheet.specs.Lists.{countOf, objectAt, listRefusal}
-use Rattle.store.specs.Stored.{untagged, allUntagged, tagsRefusal, writeRefusal}
-
-pub record Untagged (l : List ℤ) : Type 0 where
-  pub each : (i : ℕ) → i < countOf l → objectAt l i .tag ≡ untagged
+use Rattle.store.specs.Stored.{untagged, allUntagged, Untagged, tagsRefusal, writeRefusal}
 
 module _ (l : List ℤ) where
   all-true : (n : ℕ) → ((i : ℕ) → i < n → objectAt l i .tag ≡ untagged) → allUntagged l n ≡ true
