@@ -10,8 +10,7 @@
 use mathlib.Core.Path.{_≡_, refl, sym, ap, _∙_}
 use mathlib.Core.Bool.{Bool, true, false, cond}
 use mathlib.Core.List.{List, [], _∷_, _++_}
-use Prim.Native.Nat.{ℕ, zero, suc, _+_, _*_, _%_, _≤_, _<_}
-use native.Mathlib.Numerals.{add-one}
+use Prim.Native.Nat.{ℕ, suc, _+_, _*_, _%_, _≤_, _<_}
 use native.Mathlib.Decide.{le-ind}
 use native.Mathlib.Omega.{arith}
 use lib.Dec.{eqb, ltb}
@@ -20,11 +19,12 @@ use lib.ListN.{length, getD, drop, List·getD-eq-default}
 use lib.Seq.{getD-drop}
 use borrow.Author.Tests.{ltb-true, ltb-false, le-ltb, eq-eqb, eqb-true}
 use Rattle.whole.specs.InTurn.{inTurn}
+use Rattle.whole.specs.InTurnLaws.{turn-more, turn-all, turn-each}
 use Rattle.whole.specs.Tests.{eq-eqZ, ne-eqZ}
 use Rattle.sheet.specs.Limits.{most}
 use Rattle.sheet.specs.Refusal.{objectRefusal}
 use Rattle.whole.specs.Choice.{orElse}
-use Rattle.whole.specs.ChoiceLaws.{or-zero}
+use Rattle.whole.specs.ChoiceLaws.{or-zero, or-next}
 use Rattle.sheet.specs.Lists.{width, countOf, objectFrom, objectAt, firstRefusal, objectsRefusal, listRefusal, indexRefusal}
 use Rattle.sheet.specs.Listable.{Listable}
 use Rattle.sheet.specs.Answers.{objectNumbers}
@@ -33,8 +33,7 @@ use Rattle.sheet.specs.Answers.{objectNumbers}
 
 module _ (f : ℕ → ℤ) where
   pub first-more : (n : ℕ) → firstRefusal f (n + 1) ≡ orElse (firstRefusal f n) (f n)
-  unfolding inTurn
-  first-more n = ap (firstRefusal f) (add-one n)
+  first-more = turn-more orElse (pos 0) f
 
   pub first-stays : (n m : ℕ) → n ≤ m → (firstRefusal f n ≡ pos 0 → ⊥) → firstRefusal f m ≡ firstRefusal f n
   unfolding inTurn
@@ -44,17 +43,10 @@ module _ (f : ℕ → ℤ) where
       step k e = let g = ne-eqZ {a = firstRefusal f k} {b = pos 0} (λ z. d (sym e ∙ z)) in simp g e
 
   pub first-none : (n : ℕ) → ((i : ℕ) → i < n → f i ≡ pos 0) → firstRefusal f n ≡ pos 0
-  unfolding inTurn
-  first-none zero h = refl
-  first-none (suc n) h = simp (eq-eqZ (first-none n (λ i k. h i (omega arith)))) (h n (omega arith))
+  first-none = turn-all (λ z. z ≡ pos 0) orElse (pos 0) f refl (λ a b p q. or-next b p ∙ q)
 
   pub none-first : (n : ℕ) → firstRefusal f n ≡ pos 0 → (i : ℕ) → i < n → f i ≡ pos 0
-  unfolding inTurn
-  none-first n z i h = or-zero (firstRefusal f i) (f i) (front (suc i) h) .1
-    where
-      front : (k : ℕ) → k ≤ n → firstRefusal f k ≡ pos 0
-      front k h =
-          le-ind (λ m. firstRefusal f m ≡ pos 0 → firstRefusal f k ≡ pos 0) (λ e. e) (λ m _ g e. g (or-zero (firstRefusal f m) (f m) e .0)) n h z
+  none-first = turn-each (λ z. z ≡ pos 0) orElse (pos 0) f or-zero
 
 -- one more object in turn: accepted, or the first that is refused of n
 module _ (l : List ℤ) (i : ℕ) (e : objectsRefusal l i ≡ pos 0) where

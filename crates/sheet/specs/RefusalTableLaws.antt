@@ -11,12 +11,12 @@ use mathlib.Core.Path.{_≡_, refl, sym, ap, _∙_}
 use mathlib.Core.Logic.{_⊎_, inl, inr, ⊎-elim}
 use mathlib.Core.Bool.{Bool, true, false, cond, not, _&&_, _||_, true≢false}
 use mathlib.Core.List.{List, [], _∷_}
-use Prim.Native.Nat.{ℕ, zero, suc, _%_}
+use Prim.Native.Nat.{ℕ, _%_}
 use borrow.Author.Tests.{eqb-true}
 use lib.Dec.{eqb, ltb}
 use lib.IntN.{ℤ, pos, natAbs}
 use lib.ListN.{length}
-use Rattle.whole.specs.InTurn.{inTurn}
+use Rattle.whole.specs.InTurnLaws.{turn-all}
 use Rattle.whole.specs.Flag.{eqZ}
 use Rattle.whole.specs.Tests.{cond-by, eqZ-true}
 use Rattle.sheet.specs.declared.Object.{Object}
@@ -69,9 +69,7 @@ pub known-or : (n m : ℤ) → Known n → Known m → Known (orElse n m)
 known-or n m h k = cond-by Known (eqZ n (pos 0)) (λ e. k) (λ e. h)
 
 pub known-first : (f : ℕ → ℤ) → ((i : ℕ) → Known (f i)) → (n : ℕ) → Known (firstRefusal f n)
-unfolding inTurn
-known-first f h zero = one-of 0 refl
-known-first f h (suc n) = known-or (firstRefusal f n) (f n) (known-first f h n) (h n)
+known-first f h n = turn-all Known orElse (pos 0) f (one-of 0 refl) known-or n (λ i k. h i)
 
 known-pair : (px py qx qy : ℤ) → Known (pairRefusal px py qx qy)
 unfolding pairRefusal

@@ -1,11 +1,13 @@
 -- `put_row` meets its contract: in each arm, what the two share, by the law of its row.
 use mathlib.Core.Path.{_≡_, sym, ap, subst, _∙_}
 use mathlib.Core.List.{[], _∷_, _++_}
+use Prim.Native.Nat.{_<_}
 use native.Mathlib.Omega.{arith}
 use lib.IntN.{pos}
 use Rattle.whole.specs.Tests.{out, out-ok, Fit}
 use Rattle.sheet.specs.declared.Object.{Object}
 use Rattle.sheet.specs.Points.{numbers}
+use Rattle.sheet.specs.Limits.{most}
 use Rattle.sheet.specs.Refusal.{Accepted}
 use Rattle.sheet.specs.Crossing.{crossingOf}
 use Rattle.sheet.specs.LentLaws.{wrote-none, wrote-as}
@@ -43,10 +45,12 @@ tags c f g =
     let h = out-ok (b .tag) g ∙ ap (λ (o : Object). o .tag) (c .object-at .ensures) in
     λ k. e k ∷ h k ∷ []
 
+-- both are among the most
+few : (s : tie.Start) → (s .args .i < most) × (s .args .j < most)
+few s = let p = s .pre .0 in (omega (arith, p .list .few, p .one), omega (arith, p .list .few, p .two))
+
 write-row-requires : tie.Need-write-row-requires
-write-row-requires c κs =
-    let s = c .before .before .before .before .before .before .before .before .before .before .before .before .before in
-    (omega (arith, s .pre .0 .list .few, s .pre .0 .one), omega (arith, s .pre .0 .list .few, s .pre .0 .two))
+write-row-requires c κs = few (c .before .before .before .before .before .before .before .before .before .before .before .before .before)
 
 returns : tie.Need-returns
 returns c =
@@ -65,9 +69,7 @@ returns c =
     ∙ row-once (s .args .list .now) (s .args .i) (s .args .j) (sym (ap meetingBy (e .1)) ∙ met (k .before .before .before)))
 
 write-row-requires-2 : tie.Need-write-row-requires-2
-write-row-requires-2 c κs =
-    let s = c .before .before .before .before .before .before .before in
-    (omega (arith, s .pre .0 .list .few, s .pre .0 .one), omega (arith, s .pre .0 .list .few, s .pre .0 .two))
+write-row-requires-2 c κs = few (c .before .before .before .before .before .before .before)
 
 returns-2 : tie.Need-returns-2
 returns-2 c =
