@@ -95,7 +95,7 @@ def spoilt(rng, numbers):
         elif what == 3:
             numbers[at:at + 2] = [4, rng.choice((0, 1, 4, 5))]
         else:
-            numbers[at + 5] = rng.choice((-1, reference.LAST_TAG + 1, 2**63 - 1, -2**63))
+            numbers[at + reference.WIDTH - 1] = rng.choice((-1, reference.LAST_TAG + 1, 2**63 - 1, -2**63))
 
 
 def numbers(rng):
