@@ -6,8 +6,8 @@ EQUAL, SHUT_OUT = 'Two answers are equal', 'Shut out'
 CALLS = 'crates/refusals/specs/Calls.antt'
 UNREFUSED = {  # these never refuse
     ('whole', 'sign'), ('whole', 'size'), ('whole', 'gcd'), ('whole', 'or_else'),
-    ('sheet', 'Point/given'), ('sheet', 'Point/corner'), ('sheet', 'is_beyond'), ('sheet', 'lists/object_at'), ('sheet', 'lent/behind'),
-    ('sheet', 'lent/put_byte'), ('sheet', 'lent/put_numbers'),
+    ('sheet', 'Point/given'), ('sheet', 'Point/corner'), ('sheet', 'is_beyond'), ('sheet', 'are_equal'), ('sheet', 'lists/object_at'),
+    ('sheet', 'lent/behind'), ('sheet', 'lent/put_byte'), ('sheet', 'lent/put_numbers'),
     ('number', 'put_stored'),
     ('decimal', 'put_text'), ('decimal', 'put_sized'), ('decimal', 'put_number'), ('decimal', 'put_field'), ('decimal', 'put_fields'),
     ('store', 'start'), ('store', 'open_reader'),

@@ -1,5 +1,5 @@
 -- "Stored drawing" of document 01, its numbers: what is written for one, and what is read of bytes. Definitions alone.
-use mathlib.Core.Bool.{Bool, cond}
+use mathlib.Core.Bool.{Bool, false, cond}
 use mathlib.Core.List.{List, [], _∷_, _++_}
 use Prim.Native.Nat.{ℕ, zero, suc, _+_, _*_, _-_, _/_, _%_, _<_, min}
 use lib.Dec.{ltb, eqb}
@@ -11,34 +11,54 @@ use Rattle.number.specs.declared.Number.{Number}
 pub record Bytes (bs : List ℕ) : Type 0 where
   pub each : (i : ℕ) → getD bs i 0 < 256
 
--- a group of seven bits holds the numbers below this, which is also the value of a byte's top bit
+-- ---- a stored number, by its groups
+
+-- "groups of seven bits": a group is below this, which is also the value of a byte's top bit
 abbrev pub group : ℕ
 group = 128
 
--- "in the fewest groups, two at most": how many may come after the first
-abbrev pub moreGroups : ℕ
-moreGroups = 1
+-- "in the fewest groups, two at most"
+abbrev pub mostGroups : ℕ
+mostGroups = 2
 
--- so many groups after the first hold the numbers below this
+-- so many groups hold the numbers below this
 abbrev pub limit : ℕ → ℕ
-limit zero = group
-limit (suc more) = group * limit more
+limit zero = 1
+limit (suc k) = group * limit k
 
 abbrev pub numberLimit : ℕ
-numberLimit = limit moreGroups
+numberLimit = limit mostGroups
 
 abbrev pub largestNumber : ℕ
 largestNumber = numberLimit - 1
 
+-- "low group first .. in the fewest groups": a number's groups, k at most; behind the low one come those of what is left, if anything is
+unfoldable pub groupsOf : ℕ → ℕ → List ℕ
+groupsOf zero n = []
+groupsOf (suc k) n = (n % group) ∷ cond (ltb n group) [] (groupsOf k (n / group))
+
+-- the number that groups hold
+unfoldable pub valueOf : List ℕ → ℕ
+valueOf [] = 0
+valueOf (g ∷ gs) = g + group * valueOf gs
+
+-- more groups than the fewest: the last is 0, and it is not the first
+unfoldable pub needless : List ℕ → Bool
+needless [] = false
+needless (g ∷ []) = false
+needless (g ∷ h ∷ []) = eqb h 0
+needless (g ∷ h ∷ i ∷ gs) = needless (h ∷ i ∷ gs)
+
+-- "the top bit set in every byte but the number's last"
+unfoldable pub bytesOf : List ℕ → List ℕ
+bytesOf [] = []
+bytesOf (g ∷ []) = g ∷ []
+bytesOf (g ∷ h ∷ gs) = (group + g) ∷ bytesOf (h ∷ gs)
+
 -- ---- writing
 
--- "Every number is in groups of seven bits, low group first, the top bit set in every byte but the number's last"
-unfoldable pub writeGroups : ℕ → ℕ → List ℕ
-writeGroups zero n = n ∷ []
-writeGroups (suc more) n = cond (ltb n group) (n ∷ []) ((group + n % group) ∷ writeGroups more (n / group))
-
 abbrev pub writeNumber : ℕ → List ℕ
-writeNumber = writeGroups moreGroups
+writeNumber n = bytesOf (groupsOf mostGroups n)
 
 -- some numbers, one behind the other; one that is too large is written as the largest
 unfoldable pub writeNumbers : List ℕ → List ℕ
@@ -65,16 +85,20 @@ next (no n) f = no n
 abbrev pub checked : {A : Type 0} → Bool → ℤ → A → List ℕ → Reading A
 checked bad n a rest = cond bad (no n) (got a rest)
 
--- "7: stored bytes end where a number must begin or go on. 8: a stored number's second byte has its top bit set (at once, before any 7), or
--- its second group is 0"
-unfoldable pub readGroups : ℕ → List ℕ → Reading ℕ
-readGroups more [] = no (pos 7)
-readGroups zero (b ∷ bs) = cond (ltb b group) (got b bs) (no (pos 8))
-readGroups (suc more) (b ∷ bs) =
-    cond (ltb b group) (got b bs) (next (readGroups more bs) (λ n rest. checked (eqb n 0) (pos 8) (b - group + group * n) rest))
+-- the groups that bytes begin with, k at most. "7: stored bytes end where a number must begin or go on. 8: a stored number's second byte has
+-- its top bit set (at once, before any 7)"
+unfoldable pub readGroups : ℕ → List ℕ → Reading (List ℕ)
+readGroups zero bs = no (pos 8)
+readGroups (suc k) [] = no (pos 7)
+readGroups (suc k) (b ∷ bs) =
+    cond (ltb b group) (got (b ∷ []) bs) (next (readGroups k bs) (λ gs rest. got ((b - group) ∷ gs) rest))
+
+-- "or its second group is 0": the number of groups that were read
+abbrev pub whole : Reading (List ℕ) → Reading ℕ
+whole r = next r (λ gs rest. checked (needless gs) (pos 8) (valueOf gs) rest)
 
 abbrev pub readNumber : List ℕ → Reading ℕ
-readNumber = readGroups moreGroups
+readNumber bs = whole (readGroups mostGroups bs)
 
 -- the number that is stored as n
 abbrev pub unzigzag : ℕ → ℤ

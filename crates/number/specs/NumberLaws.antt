@@ -3,16 +3,17 @@
 --   number-tells          what the answer of `read_number` says of the reading
 -- Assumes nothing.
 use mathlib.Core.Path.{_≡_, refl, sym, ap, subst, _∙_}
-use mathlib.Core.Bool.{Bool, true, false, cond}
+use mathlib.Core.Bool.{Bool, true, false}
 use mathlib.Core.List.{List, [], _∷_, _++_}
 use Prim.Native.Nat.{ℕ, zero, suc, _+_, _*_, _-_}
 use native.Mathlib.Omega.{arith}
-use lib.Dec.{ltb, eqb}
 use lib.IntN.{pos}
 use lib.ListN.{length, drop, length-append}
 use lib.Seq.{drop-at}
 use Rattle.number.specs.declared.Number.{Number}
-use Rattle.number.specs.Number.{group, moreGroups, Reading, got, no, next, checked, readGroups, readNumber, numberOf}
+use Rattle.number.specs.Number.{mostGroups, valueOf, needless, Reading, got, no, checked, whole, readNumber, numberOf}
+use Rattle.number.specs.ReadGroupsLaws.{Behind, read-behind}
+use Rattle.number.specs.ReadGroupsLaws as groups
 use Rattle.number.specs.ReadAs.{ReadAs}
 use Rattle.number.specs.ReadAsLaws.{reads-taken, reads-refused}
 
@@ -21,24 +22,17 @@ pub data Numbered (bs : List ℕ) : Reading ℕ → Type 0 where
   ends : Numbered bs (no (pos 7))
   wrong : Numbered bs (no (pos 8))
 
-is-cond : {bs : List ℕ} (t : Bool) {r s : Reading ℕ} → Numbered bs r → Numbered bs s → Numbered bs (cond t r s)
-is-cond true h k = h
-is-cond false h k = k
-
-groups-are : (more : ℕ) (bs : List ℕ) → Numbered bs (readGroups more bs)
-unfolding readGroups
-groups-are zero [] = ends
-groups-are (suc more) [] = ends
-groups-are zero (b ∷ bs) = is-cond (ltb b group) (number b (b ∷ []) bs refl) wrong
-groups-are (suc more) (b ∷ bs) = is-cond (ltb b group) (number b (b ∷ []) bs refl) (go (groups-are more bs))
-  where
-    go : {r : Reading ℕ} → Numbered bs r → Numbered (b ∷ bs) (next r (λ n rest. checked (eqb n 0) (pos 8) (b - group + group * n) rest))
-    go ends = ends
-    go wrong = wrong
-    go (number n front rest e) = is-cond (eqb n 0) wrong (number (b - group + group * n) (b ∷ front) rest (ap (λ (l : List ℕ). b ∷ l) e))
-
 pub number-is : (bs : List ℕ) → Numbered bs (readNumber bs)
-number-is bs = groups-are moreGroups bs
+number-is bs = go (read-behind mostGroups bs [])
+  where
+    go : {r r′ : Reading (List ℕ)} → Behind mostGroups bs [] r r′ → Numbered bs (whole r)
+    go groups.over = wrong
+    go (groups.cut r h) = ends
+    go (groups.taken g gs front rest e l) = second (needless (g ∷ gs))
+      where
+        second : (t : Bool) → Numbered bs (checked t (pos 8) (valueOf (g ∷ gs)) rest)
+        second true = wrong
+        second false = number (valueOf (g ∷ gs)) front rest e
 
 pub number-tells : (bs : List ℕ) {r : Number} → r ≡ numberOf bs (readNumber bs) → ReadAs bs (readNumber bs) (r .refusal) (r .value) (r .size)
 number-tells bs e = subst (λ (n : Number). ReadAs bs (readNumber bs) (n .refusal) (n .value) (n .size)) (sym e) (go (number-is bs))

@@ -31,8 +31,8 @@ module _ {A : Type 0} {bs : List ℕ} {r : Reading A} {v : A} where
 
 module _ {A B : Type 0} {bs : List ℕ} {r : Reading A} {n : ℤ} {v : A} {size : ℕ} (t : ReadAs bs r n v size) (ok : mag n < 2 ^ 63)
     (f : A → List ℕ → Reading B) where
-  pub on-refused : {w : B} → (ofZ w64 n ≡ 0 → ⊥) → ReadAs bs (next r f) (out n) w 0
-  on-refused {w} d =
+  pub on-refused : {all : List ℕ} {w : B} → (ofZ w64 n ≡ 0 → ⊥) → ReadAs all (next r f) (out n) w 0
+  on-refused d =
       let e = out-ok n ok in
       let z : n ≡ pos 0 → ⊥ = eq-left {x = n} {y = pos 0} d in
       record {

@@ -4,7 +4,7 @@ use mathlib.Core.Path.{_≡_, refl}
 use mathlib.Core.List.{[], _∷_, map}
 use lib.IntN.{pos}
 use Rattle.sheet.specs.Cases.{minus}
-use Rattle.number.specs.Number.{largestNumber, writeGroups, writeNumber, writeNumbers, zigzag, got, no, readGroups, readNumber, unzigzag, numberOf}
+use Rattle.number.specs.Number.{largestNumber, groupsOf, valueOf, needless, bytesOf, writeNumber, writeNumbers, zigzag, got, no, readGroups, readNumber, unzigzag, numberOf}
 
 pub record WorkedNumber : Type 0 where
   -- "Every number is in groups of seven bits, low group first, the top bit set in every byte but the number's last, in the fewest groups"
@@ -31,7 +31,7 @@ pub record WorkedNumber : Type 0 where
       ≡ pos 0 ∷ minus 1 ∷ pos 1 ∷ minus 2 ∷ pos 2 ∷ minus 2000 ∷ pos 2000 ∷ minus 2001 ∷ pos 2001 ∷ []
 
 pub worked-number : WorkedNumber
-unfolding writeGroups writeNumbers readGroups
+unfolding groupsOf valueOf needless bytesOf writeNumbers readGroups
 worked-number = record {
   one-group = (refl, refl);
   two-groups = (refl, refl, refl);

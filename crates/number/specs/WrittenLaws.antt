@@ -16,7 +16,7 @@ use lib.Dec.{leb}
 use lib.ListN.{length, getD, take, drop, length-append, take-append-drop}
 use lib.Seq.{take-suc}
 use Rattle.sheet.specs.Flags.{both}
-use Rattle.number.specs.Number.{moreGroups, numberLimit, largestNumber, writeNumber, writeNumbers}
+use Rattle.number.specs.Number.{mostGroups, numberLimit, largestNumber, writeNumber, writeNumbers}
 use Rattle.number.specs.Storable.{allStorable}
 use Rattle.number.specs.GroupsLaws.{number-most}
 
@@ -39,7 +39,7 @@ numbers-more ns i h =
     ∙ numbers-two (take i ns) (getD ns i 0 ∷ [])
     ∙ ap (λ (l : List ℕ). writeNumbers (take i ns) ++ l) (numbers-one (getD ns i 0))
 
-pub numbers-most : (ns : List ℕ) → length (writeNumbers ns) ≤ (moreGroups + 1) * length ns
+pub numbers-most : (ns : List ℕ) → length (writeNumbers ns) ≤ mostGroups * length ns
 unfolding writeNumbers
 numbers-most [] = omega arith
 numbers-most (n ∷ ns) =

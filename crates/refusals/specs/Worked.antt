@@ -21,7 +21,7 @@ use Rattle.sheet.specs.Lists.{listRefusal}
 use Rattle.sheet.specs.Tags.{tagged}
 use Rattle.sheet.specs.Cases.{minus, object, segment, side, point, at}
 use Rattle.store.specs.Stored.{readCoordinate, readPoint, readSide, readTo, readPair, readShape, readObject, readObjects, readCount, readDrawing, writeRefusal}
-use Rattle.number.specs.Number.{readGroups}
+use Rattle.number.specs.Number.{valueOf, needless, readGroups}
 use Rattle.store.specs.Answers.{readAnswer, writeAnswer}
 use Rattle.listing.specs.Listing.{oneRefusal}
 use Rattle.refusals.specs.Calls.{sideRefusalIn}
@@ -45,7 +45,7 @@ abbrev origin : Point
 origin = at (pos 0) (pos 0)
 
 pub each-met : EachMet refusals
-unfolding sgn steps gcd gcdOf pairRefusal sideRefusal objectRefusal standard narrow frame isPoint pointRefusal turnRefusal isGiven givenRefusal circleRefusal crossingRefusal inTurn listRefusal readGroups readCoordinate readPoint readSide readTo readPair readShape readObject readObjects readCount readDrawing readAnswer writeRefusal writeAnswer
+unfolding sgn steps gcd gcdOf pairRefusal sideRefusal objectRefusal standard narrow frame isPoint pointRefusal turnRefusal isGiven givenRefusal circleRefusal crossingRefusal inTurn listRefusal valueOf needless readGroups readCoordinate readPoint readSide readTo readPair readShape readObject readObjects readCount readDrawing readAnswer writeRefusal writeAnswer
 each-met =
     more (by-crossing (object (pos 5) (pos 0) (pos 0) (pos 1) (pos 1)) fine refl)
     (more (by-crossing fine (segment (pos 0) (pos 0) (pos 2001) (pos 1)) refl)

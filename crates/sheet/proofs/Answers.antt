@@ -16,6 +16,7 @@ use Rattle.sheet.proofs.Object.line.Reads as line
 use Rattle.sheet.proofs.Object.side.Reads as side
 use Rattle.sheet.proofs.Point.given.Reads as given
 use Rattle.sheet.proofs.Point.corner.Reads as corner
+use Rattle.sheet.proofs.are_equal.Reads as are-equal
 use Rattle.sheet.proofs.is_beyond.Reads as is-beyond
 use Rattle.sheet.proofs.object_refusal.Reads as object-refusal
 use Rattle.sheet.proofs.lists.object_at.Reads as object-at
@@ -50,6 +51,11 @@ corner-answer κs a r s p q = p ∙ sym q
 
 pub is-beyond-answer : (κs : Lfts 0) (z : ℤ) (r s : Bool) → is-beyond.Post κs (z, tt) r (z, tt) → is-beyond.Post κs (z, tt) s (z, tt) → r ≡ s
 is-beyond-answer κs z r s p q = p ∙ sym q
+
+pub are-equal-answer :
+    (κs : Lfts 0) (px py qx qy : ℤ) (r s : Bool)
+    → are-equal.Post κs (px, (py, (qx, (qy, tt)))) r (px, (py, (qx, (qy, tt)))) → are-equal.Post κs (px, (py, (qx, (qy, tt)))) s (px, (py, (qx, (qy, tt)))) → r ≡ s
+are-equal-answer κs px py qx qy r s p q = p ∙ sym q
 
 pub object-refusal-answer :
     (κs : Lfts 0) (o : Object) (r s : ℤ) → object-refusal.Post κs (o, tt) r (o, tt) → object-refusal.Post κs (o, tt) s (o, tt) → r ≡ s

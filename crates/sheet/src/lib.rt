@@ -177,7 +177,8 @@ fn any_beyond(px: i64, py: i64, qx: i64, qy: i64) -> bool
     is_beyond(px) | is_beyond(py) | is_beyond(qx) | is_beyond(qy)
 }
 
-fn are_equal(px: i64, py: i64, qx: i64, qy: i64) -> bool
+// Whether p and q are equal.
+pub fn are_equal(px: i64, py: i64, qx: i64, qy: i64) -> bool
     ensures { λ r. ⌜ r ≡ equal px py qx qy ⌝ }
 {
     (px == qx) & (py == qy)

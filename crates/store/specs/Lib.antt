@@ -18,6 +18,7 @@ pub mod BoundedLaws
 pub mod AnswersLaws
 -- laws: there and back
 pub mod PlainLaws
+pub mod PointsLaws
 pub mod Trip
 pub mod ObjectTrip
 pub mod StoredLaws

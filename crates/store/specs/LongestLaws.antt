@@ -23,7 +23,7 @@ use Rattle.sheet.specs.Limits.{most}
 use Rattle.sheet.specs.Refusal.{outside, beyond, equal, pairRefusal, objectRefusal, Accepted}
 use Rattle.sheet.specs.Lists.{width, countOf, objectAt}
 use Rattle.sheet.specs.ListsLaws.{is-listable, object-next}
-use Rattle.number.specs.Number.{limit, writeGroups, zigzag, Reading, got, no, next, checked, unzigzag}
+use Rattle.number.specs.Number.{limit, groupsOf, bytesOf, zigzag, Reading, got, no, next, checked, unzigzag}
 use Rattle.number.specs.ZigzagLaws.{zigzag-unzigzag}
 use Rattle.number.specs.SameLaws.{Same, on, off, same-next, same-checked, same-cond, same-weak, same-take}
 use Rattle.store.specs.Stored.{Form, plain, untagged, Drawing, nought, originOf, longest, andThen, counted, before, writeDrawing, writeRefusal, readCoordinate, sideObject, readSide, readPoint, readTo, readPair, readShape, readObject, readObjects, readCount, readDrawing, writeShape, writeObject, writeObjects}
@@ -37,7 +37,7 @@ use Rattle.store.specs.StoredLaws.{read-written}
 -- ---- numbers that are refused where they take more bytes
 
 -- what more than two groups hold is no coordinate
-large-beyond : (start : ℤ) → beyond start ≡ false → (n : ℕ) → limit 1 ≤ n → beyond (start +ℤ unzigzag n) ≡ true
+large-beyond : (start : ℤ) → beyond start ≡ false → (n : ℕ) → limit 2 ≤ n → beyond (start +ℤ unzigzag n) ≡ true
 large-beyond start h n l = go (beyond (start +ℤ unzigzag n)) refl
   where
     go : (b : Bool) → beyond (start +ℤ unzigzag n) ≡ b → b ≡ true
@@ -200,12 +200,12 @@ segments-taken (suc n) zero h = (record { accepted = refl }, refl)
 segments-taken (suc n) (suc i) h = subst Plain (object-next (longSegments (suc n)) i) (segments-taken n i (omega arith))
 
 segments-long : (n : ℕ) → length (writeObjects plain n (longSegments n)) ≡ n * 9
-unfolding longSegments inTurn writeObject writeShape writeGroups
+unfolding longSegments inTurn writeObject writeShape groupsOf bytesOf
 segments-long zero = refl
 segments-long (suc n) = omega (arith, segments-long n, ap length (objects-first plain n (longSegments (suc n))))
 
 pub longest-reached : (writeRefusal (longSegments most) ≡ pos 0) × (length (writeDrawing (longSegments most)) ≡ longest)
-unfolding writeDrawing writeGroups
+unfolding writeDrawing groupsOf bytesOf
 longest-reached =
     let many = segments-many most in
     let count : countOf (longSegments most) ≡ most = omega arith in (

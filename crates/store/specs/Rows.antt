@@ -15,7 +15,7 @@ use Rattle.sheet.specs.Crossing as crossing
 use Rattle.sheet.specs.Refusal.{sideRefusal, pairRefusal, objectRefusal}
 use Rattle.sheet.specs.Lists.{listRefusal}
 use Rattle.sheet.specs.Cases.{line, ray, side, point, at}
-use Rattle.number.specs.Number.{writeGroups, readGroups}
+use Rattle.number.specs.Number.{groupsOf, bytesOf, valueOf, needless, readGroups}
 use Rattle.store.specs.Stored.{writeShape, writeObject, writeDrawing, writeRefusal, readCoordinate, readSide, readPoint, readTo, readPair, readShape, readObject, readObjects, readCount, readDrawing}
 
 row-4 : Point
@@ -64,7 +64,7 @@ pub record WorkedRows : Type 0 where
   ten-back : writeDrawing row-objects ≡ row-bytes
 
 pub worked-rows : WorkedRows
-unfolding crossing.stretches crossing.withSide crossing.withStretch crossing.meeting crossing.crossingOf sgn steps gcd gcdOf sideOf figureOf divided farRaw farEnd firstEnd lastEnd row-4 order turnPoly turn row-bytes row-objects writeGroups writeShape writeObject writeDrawing writeRefusal inTurn listRefusal readGroups readCoordinate readSide readPoint readTo readPair readShape readObject readObjects readCount readDrawing sideRefusal pairRefusal objectRefusal
+unfolding crossing.stretches crossing.withSide crossing.withStretch crossing.meeting crossing.crossingOf sgn steps gcd gcdOf sideOf figureOf divided farRaw farEnd firstEnd lastEnd row-4 order turnPoly turn row-bytes row-objects groupsOf bytesOf writeShape writeObject writeDrawing writeRefusal inTurn listRefusal valueOf needless readGroups readCoordinate readSide readPoint readTo readPair readShape readObject readObjects readCount readDrawing sideRefusal pairRefusal objectRefusal
 worked-rows = record {
   one = refl;
   two = refl;

@@ -9,7 +9,7 @@ use Rattle.sheet.specs.Cases.{side}
 use Rattle.store.specs.declared.Bookmark.{Bookmark}
 use Rattle.store.specs.declared.Item.{Item}
 use Rattle.store.specs.declared.Item.the-variants.{One, End, Refused}
-use Rattle.number.specs.Number.{readGroups}
+use Rattle.number.specs.Number.{valueOf, needless, readGroups}
 use Rattle.store.specs.Stored.{readCoordinate, readSide, readPoint, readTo, readPair, readShape, readObject, readObjects, readCount, readDrawing}
 use Rattle.store.specs.Reader.{startPlace, stepFrom, stepOf, callFrom, itemOf, itemSays}
 
@@ -51,7 +51,7 @@ pub record WorkedReader : Type 0 where
       × (itemSays (Refused (pos 9)) ≡ pos 9 ∷ [])
 
 pub worked-reader : WorkedReader
-unfolding readGroups readCoordinate readSide readPoint readTo readPair readShape readObject readObjects readCount readDrawing stepFrom stepOf callFrom itemOf
+unfolding valueOf needless readGroups readCoordinate readSide readPoint readTo readPair readShape readObject readObjects readCount readDrawing stepFrom stepOf callFrom itemOf
 worked-reader = record {
   one-a-call = refl;
   none-at-all = refl;

@@ -11,7 +11,7 @@ use Rattle.sheet.specs.Refusal.{sideRefusal, pairRefusal, objectRefusal}
 use Rattle.sheet.specs.Lists.{listRefusal}
 use Rattle.sheet.specs.Tags.{tagged}
 use Rattle.sheet.specs.Cases.{minus, object, segment, ray, side}
-use Rattle.number.specs.Number.{got, writeGroups, readGroups}
+use Rattle.number.specs.Number.{got, groupsOf, bytesOf, valueOf, needless, readGroups}
 use Rattle.store.specs.Stored.{plain, writeShape, writeObject, writeDrawing, writeRefusal, readCoordinate, readSide, readPoint, readTo, readPair, readShape, readObject, readObjects, readCount, readDrawing}
 use Rattle.store.specs.Answers.{readAnswer, readInto, writeAnswer, writeInto}
 
@@ -102,7 +102,7 @@ pub record WorkedStored : Type 0 where
       × (writeInto (theirNumbers ++ lent 1) (lentBytes 7) ≡ lentBytes 7)
 
 pub worked-stored : WorkedStored
-unfolding sideRefusal pairRefusal objectRefusal inTurn listRefusal writeGroups writeShape writeObject writeDrawing writeRefusal readGroups readCoordinate readSide readPoint readTo readPair readShape readObject readObjects readCount readDrawing readAnswer readInto writeAnswer writeInto
+unfolding sideRefusal pairRefusal objectRefusal inTurn listRefusal groupsOf bytesOf writeShape writeObject writeDrawing writeRefusal valueOf needless readGroups readCoordinate readSide readPoint readTo readPair readShape readObject readObjects readCount readDrawing readAnswer readInto writeAnswer writeInto
 worked-stored = record {
   object-bytes = (refl, refl, refl);
   object-read = refl;

@@ -4,6 +4,7 @@ use crate::UNTAGGED;
 use number::Number;
 use number::read_number;
 use sheet::Object;
+use sheet::are_equal;
 use sheet::is_beyond;
 use sheet::lent::put_numbers;
 use sheet::refusal::BYTES_AFTER;
@@ -22,7 +23,7 @@ ghost use Rattle.sheet.specs.Lent.{Wrote};
 ghost use Rattle.sheet.specs.Limits.{reachSize, most};
 ghost use Rattle.number.specs.Number.{numberLimit, unzigzag};
 ghost use Rattle.number.specs.ReadAs.{ReadAs};
-ghost use Rattle.store.specs.Stored.{plain, objectOf, readCoordinate, readPoint, readSide, readTo, readPair, readShape, readObject, readCount, readObjects};
+ghost use Rattle.store.specs.Stored.{plain, objectOf, readCoordinate, readPoint, readSide, readPair, readShape, readObject, readCount, readObjects};
 
 pub(crate) struct Coordinate {
     pub refusal: i64,
@@ -155,45 +156,40 @@ pub(crate) fn read_side(bytes: &[u8]) -> Part
     }
 }
 
-// The object of a kind from p to the point that the bytes begin with.
-pub(crate) fn read_to(kind: u64, px: i64, py: i64, bytes: &[u8]) -> Part
+// p and q
+const POINTS: usize = 2;
+
+// The object of a kind by its points p and q. Both are read in one place, since the compiler takes a function into its only caller.
+pub(crate) fn read_pair(kind: u64, bytes: &[u8]) -> Part
     requires { ⌜ kind < numberLimit ⌝ }
-    ensures { λ r. ⌜ ReadAs (now (bytes .entry)) (readTo plain kind (vec px py) (now (bytes .entry))) (r .refusal) (r .object) (r .size) ⌝ }
+    ensures { λ r. ⌜ ReadAs (now (bytes .entry)) (readPair plain kind (now (bytes .entry))) (r .refusal) (r .object) (r .size) ⌝ }
 {
-    let q = read_point(0, 0, bytes);
-    let no = q.refusal;
-    if no != 0 {
-        return no_part(no);
+    let mut px = 0;
+    let mut py = 0;
+    let mut qx = 0;
+    let mut qy = 0;
+    let mut at = 0;
+    let mut i = 0;
+    while i < POINTS {
+        let point = read_point(0, 0, &bytes[at..]);
+        let no = point.refusal;
+        if no != 0 {
+            return no_part(no);
+        }
+        px = qx;
+        py = qy;
+        qx = point.x;
+        qy = point.y;
+        at += point.size;
+        i += 1;
     }
-    let qx = q.x;
-    let qy = q.y;
-    if (px == qx) & (py == qy) {
+    if are_equal(px, py, qx, qy) {
         return no_part(SAME_POINTS);
     }
     Part {
         refusal: 0,
         object: object_of(kind as i64, px, py, qx, qy),
-        size: q.size,
-    }
-}
-
-// The object of a kind by its points p and q.
-pub(crate) fn read_pair(kind: u64, bytes: &[u8]) -> Part
-    requires { ⌜ kind < numberLimit ⌝ }
-    ensures { λ r. ⌜ ReadAs (now (bytes .entry)) (readPair plain kind (now (bytes .entry))) (r .refusal) (r .object) (r .size) ⌝ }
-{
-    let p = read_point(0, 0, bytes);
-    let no = p.refusal;
-    if no != 0 {
-        return no_part(no);
-    }
-    let after = p.size;
-    let part = read_to(kind, p.x, p.y, &bytes[after..]);
-    let object = part.object;
-    Part {
-        refusal: part.refusal,
-        object,
-        size: after + part.size,
+        size: at,
     }
 }
 

@@ -8,7 +8,7 @@ use Rattle.sheet.specs.Figure.{sideOf, figureOf}
 use Rattle.sheet.specs.Signs.{turnPoly, turn, sideSign}
 use Rattle.sheet.specs.Cases.{minus}
 use Rattle.store.specs.Stored.{readCoordinate, readSide, readPoint, readTo, readPair, readShape, readObject, readObjects, readCount, readDrawing}
-use Rattle.number.specs.Number.{readGroups}
+use Rattle.number.specs.Number.{valueOf, needless, readGroups}
 use Rattle.viewer.specs.Calls.{checkAnswer, sideIn, sideAnswer}
 
 -- `03 03 00 00 04 02 01 00 04 04 00 04 03`: a line from (0,0) toward (2,1), a segment from (0,2) to (2,0) and side 3
@@ -43,7 +43,7 @@ pub record WorkedCalls : Type 0 where
   index-before-place : (sideAnswer drawing (pos 3) (pos 2001) (pos 0) ≡ pos 113) × (sideAnswer drawing (minus 1) (pos 0) (minus 2001) ≡ pos 113)
 
 pub worked-calls : WorkedCalls
-unfolding sgn sideOf figureOf turnPoly turn sideSign readGroups readCoordinate readSide readPoint readTo readPair readShape readObject readObjects readCount readDrawing sideIn
+unfolding sgn sideOf figureOf turnPoly turn sideSign valueOf needless readGroups readCoordinate readSide readPoint readTo readPair readShape readObject readObjects readCount readDrawing sideIn
 worked-calls = record {
   checks = (refl, refl, refl, refl);
   signs = (refl, refl, refl);

@@ -1,53 +1,97 @@
--- `put_number` meets its contract: in each turn one byte more is put, and what is left is what the others hold (`Written`).
-use Prim.Native.Nat.{_-_}
+-- `put_number` meets its contract: the number's bytes are in cells of their own, and after i turns the first i of them are put, as far as there
+-- are cells.
+use mathlib.Core.Path.{_≡_, refl, sym, ap, _∙_}
+use mathlib.Core.Logic.{⊎-elim}
+use Prim.Native.Nat.{ℕ, _+_, _-_, _≤_, _<_}
 use native.Mathlib.Omega.{arith}
-use Rattle.sheet.specs.Lent.{Wrote}
-use Rattle.sheet.specs.LentLaws.{wrote-length}
+use mathlib.Core.Bool.{true, _&&_}
+use lib.Dec.{ltb}
+use lib.ListN.{length, take}
+use lib.Seq.{sets, length-sets, take-all}
 use borrow.Author.Needs.{needs}
-use Rattle.number.specs.Number.{moreGroups, writeNumber}
-use Rattle.number.specs.GroupsLaws.{Written, goes-on, written-start, written-next, written-end, written-last}
+use borrow.Author.Tests.{ltb-true}
+use Rattle.sheet.specs.Flags.{both}
+use Rattle.sheet.specs.Lent.{clipped, Wrote}
+use Rattle.number.specs.Number.{mostGroups, writeNumber}
+use Rattle.number.specs.GroupsLaws.{number-most}
+use Rattle.number.specs.WritingLaws.{Own, own-bytes, put-next, put-none}
 use Rattle.number.proofs.put_number.Statement.{statement}
 use Rattle.number.proofs.put_number.Tie as tie
 
 abbrev Inv-loop : tie.InvT-loop
-Inv-loop n out₀ at rest₀ to₀ i₀ out rest to i = Written out₀ out at n to rest (moreGroups - i)
+Inv-loop n out₀ at own size room i₀ out i = (out ≡ sets out₀ at (take i (writeNumber n))) × Own own n size × (i ≤ mostGroups)
 
 abbrev μ-loop : tie.MeasureT-loop
-μ-loop n out₀ at rest₀ to₀ i₀ out rest to i = moreGroups - i
+μ-loop n out₀ at own size room i₀ out i = mostGroups - i
+
+write-number-requires : tie.Need-write-number-requires Inv-loop μ-loop
+write-number-requires c κs = (c .before .before .pre, omega (arith, number-most (c .before .before .args .n)))
 
 loop-holds : tie.Need-loop-holds Inv-loop μ-loop
-loop-holds c = written-start (omega arith) (omega arith) (c .before .pre)
+loop-holds c = (refl, own-bytes refl (c .before .before .write-number .ensures), omega arith)
 
-add-i : tie.Need-add-i Inv-loop μ-loop
-add-i c =
-    let l = c .before .before .before .before .before .loop in
-    omega (arith, goes-on (l .i) (l .rest) (c .before .before .before .before .loop-test .taken))
+-- the byte and its cell are there
+there : (i size room : ℕ) → (ltb i size && ltb i room) ≡ true → (i < size) × (i < room)
+there i size room t = let f = both (ltb i size) (ltb i room) .0 t in (ltb-true i size (f .0), ltb-true i room (f .1))
 
-loop-less : tie.Need-loop-less Inv-loop μ-loop
-loop-less c =
-    let l = c .before .before .before .before .before .loop in
-    omega (arith, goes-on (l .i) (l .rest) (c .before .before .before .before .loop-test .taken))
+-- no cell is more or less
+same : (c : tie.At-loop Inv-loop μ-loop) →
+    let s = c .before .before .before .before .before .before in
+    length (c .loop .out) ≡ length (s .args .out .now)
+same c =
+    let s = c .before .before .before .before .before .before in
+    ap length (c .loop .inv .0) ∙ length-sets (s .args .out .now) (s .args .at) (take (c .loop .i) (writeNumber (s .args .n)))
+
+array-read-b : tie.Need-array-read-b Inv-loop μ-loop
+array-read-b c = omega arith
+
+cell : (c : tie.Then1 Inv-loop μ-loop) →
+    let s = c .before .before .before .before .before .before .before .before in
+    s .args .at + c .before .before .loop .i < length (s .args .out .now)
+cell c =
+    let r = c .before .before .before in
+    omega (arith, there (c .before .before .loop .i) (r .before .before .write-number .result) (r .room-from .result) (c .if1 .taken), r .room-from .ensures)
+
+add-out : tie.Need-add-out Inv-loop μ-loop
+add-out c = omega (arith, cell c)
+
+slice-write-out : tie.Need-slice-write-out Inv-loop μ-loop
+slice-write-out c = omega (arith, cell c, same (c .before .before))
 
 loop-again : tie.Need-loop-again Inv-loop μ-loop
 loop-again c =
-    let l = c .before .before .before .before .before .loop in
-    written-next (l .i) (l .inv) (c .before .before .before .before .loop-test .taken) (c .before .before .put-byte .ensures)
-
-cast-put-byte-2 : tie.Need-cast-put-byte-2 Inv-loop μ-loop
-cast-put-byte-2 c = omega (arith, written-end (c .before .loop .i) (c .before .loop .inv) (c .loop-test .left))
-
-ended : (c : tie.After-slice-known3 Inv-loop μ-loop) →
-    let s = c .before .before .before .before .before .before .before in
-    Wrote (s .args .out .now) (c .before .before .put-byte2 .last .1 .0) (s .args .at) (c .before .before .put-byte2 .result) (writeNumber (s .args .n))
-ended c =
-    let l = c .before .before .before .before .before .loop in
-    written-last (l .inv) (written-end (l .i) (l .inv) (c .before .before .before .before .loop-test .left)) (c .before .before .put-byte2 .ensures)
+    let at-loop = c .before .before in
+    let l = at-loop .loop in
+    let r = at-loop .before in
+    let s = r .before .before .before .before .before in
+    let d = s .args .out .now in
+    let bytes = writeNumber (s .args .n) in
+    let o = l .inv .1 in
+    let size = r .before .before .write-number .result in
+    let room = r .room-from .result in
+    let is : c .if1 .out ≡ sets d (s .args .at) (take (l .i + 1) bytes) =
+    ⊎-elim
+    (λ w. w .1 ∙ put-next d (l .out) (s .args .at) (l .i) bytes (l .inv .0) (omega (arith, o .long, there (l .i) size room (w .0 .taken)))
+    (o .cell (l .i) (there (l .i) size room (w .0 .taken) .0)))
+    (λ w. w .1 ∙ put-none d (l .out) (s .args .at) (l .i) bytes (l .inv .0) room (omega (arith, r .room-from .ensures)) (same at-loop)
+    (ap (λ (k : ℕ). ltb (l .i) k && ltb (l .i) room) (sym (o .long)) ∙ w .0 .left))
+    (c .if1 .came) in
+    (is, o, omega arith)
 
 same-length : tie.Need-same-length Inv-loop μ-loop
-same-length c = wrote-length (ended c)
+same-length c = same (c .before .before)
 
 returns : tie.Need-returns Inv-loop μ-loop
-returns c = ended c
+returns c =
+    let l = c .before .before .loop in
+    let s = c .before .before .before .before .before .before .before .before in
+    let n = s .args .n in
+    let all = take-all (l .i) (writeNumber n) (omega (arith, number-most n)) in
+    record {
+      cells = l .inv .0 ∙ ap (sets (s .args .out .now) (s .args .at)) all;
+      place = c .behind .ensures ∙ ap (λ (k : ℕ). clipped (s .args .at + k)) (l .inv .1 .long);
+      lent = omega arith;
+    }
 
 pub put-number-spec : {M : Type 1} → statement M
 put-number-spec =
@@ -55,14 +99,16 @@ put-number-spec =
     (tie.spec
     Inv-loop
     μ-loop
-    loop-holds
     (λ c. search needs)
-    (λ c. search needs)
+    write-number-requires
     (λ c κs. search needs)
-    add-i
-    loop-less
+    loop-holds
+    array-read-b
+    add-out
+    slice-write-out
+    (λ c. search needs)
+    (λ c. search needs)
     loop-again
-    cast-put-byte-2
     (λ c κs. search needs)
     same-length
     returns)

@@ -1,154 +1,107 @@
--- `read_number` meets its contract: one group is the number, or after i turns i groups are read, each with another behind it (`Groups`), and each
--- way out is one of its laws.
-use mathlib.Core.Path.{_≡_, refl, sym, ap, subst, _∙_}
+-- `read_number` meets its contract: each way out is what the definition reads of such bytes (specs/ReadingLaws).
+use mathlib.Core.Path.{_≡_, refl, sym, ap, _∙_}
 use mathlib.Core.List.{List}
-use Prim.Native.Nat.{ℕ, suc, _+_, _-_, _*_, _%_, _≤_, _<_}
+use Prim.Native.Nat.{ℕ, _+_, _-_, _*_, _≤_, _<_}
 use native.Mathlib.Omega.{arith}
 use lib.IntN.{pos}
 use lib.ListN.{length, getD, drop, length-drop}
 use borrow.Author.Needs.{needs}
+use borrow.Author.Tests.{ltb-true}
+use lib.Dec.{ltb}
+use Rattle.sheet.specs.Flags.{both}
 use Rattle.number.specs.declared.Number.{Number}
-use Rattle.number.specs.Number.{group, moreGroups, numberLimit, got, no, readNumber, numberOf}
-use Rattle.number.specs.GroupsLaws.{Groups, groups-start, groups-step, groups-cut, groups-over, groups-wrong, groups-fine, groups-done, unit-below, sum-below}
+use Rattle.number.specs.Number.{group, numberLimit, got, no, readNumber, numberOf}
+use Rattle.number.specs.ReadingLaws.{read-none, read-one, read-cut-2, read-two, read-wrong-2}
 use Rattle.number.proofs.read_number.Statement.{statement}
 use Rattle.number.proofs.read_number.Tie as tie
 
-module _ {bs : List ℕ} {i v u : ℕ} (g : Groups bs (suc moreGroups - i) i v u) where
-  still : i ≤ moreGroups → Groups bs (suc (moreGroups - i)) i v u
-  still h = let e : suc moreGroups - i ≡ suc (moreGroups - i) = omega arith in subst (λ (k : ℕ). Groups bs k i v u) e g
+-- what is answered, and that the number is small
+abbrev Says : List ℕ → Number → Type 0
+Says bs r = (r ≡ numberOf bs (readNumber bs)) × (r .value < numberLimit)
 
-  over : moreGroups < i → Groups bs 0 i v u
-  over h = let e : suc moreGroups - i ≡ 0 = omega arith in subst (λ (k : ℕ). Groups bs k i v u) e g
+said-no : (bs : List ℕ) {r : Number} (n : ℕ) → r ≡ record { refusal = pos n; value = 0; size = 0 } → readNumber bs ≡ no (pos n) → Says bs r
+said-no bs n e f = (e ∙ ap (numberOf bs) (sym f), omega (arith, ap (λ (r : Number). r .value) e))
 
-abbrev Inv-loop : tie.InvT-loop
-Inv-loop bytes first i₀ value₀ unit₀ i value unit = (0 < i) × Groups bytes (suc moreGroups - i) i value unit
+said :
+    (bs : List ℕ) {r : Number} (n size : ℕ) → r ≡ record { refusal = pos 0; value = n; size = size } → readNumber bs ≡ got n (drop size bs)
+    → size ≤ length bs → n < numberLimit → Says bs r
+said bs n size e f h small =
+    let taken : size ≡ length bs - length (drop size bs) = omega (arith, length-drop size bs) in (
+      e ∙ ap (λ (k : ℕ). record { refusal = pos 0; value = n; size = k }) taken ∙ ap (numberOf bs) (sym f),
+      omega (arith, ap (λ (r : Number). r .value) e),
+    )
 
-abbrev μ-loop : tie.MeasureT-loop
-μ-loop bytes first i₀ value₀ unit₀ i value unit = suc moreGroups - i
-
-abbrev numberAt : ℕ → ℕ → Number
-numberAt n size = record { refusal = pos 0; value = n; size = size }
-
--- a refusal, as it is answered
-refused : (bs : List ℕ) {r : Number} (n : ℕ) → r ≡ record { refusal = pos n; value = 0; size = 0 } → readNumber bs ≡ no (pos n) → r ≡ numberOf bs (readNumber bs)
-refused bs n e f = e ∙ ap (numberOf bs) (sym f)
-
-small : {r : Number} (n : ℕ) → r ≡ record { refusal = pos n; value = 0; size = 0 } → r .value < numberLimit
-small n e = omega (arith, ap (λ (r : Number). r .value) e)
-
--- the number whose last group is group i, as it is answered
-ended : (bs : List ℕ) (i : ℕ) {n : ℕ} → i < length bs → readNumber bs ≡ got n (drop (i + 1) bs) → numberAt n (i + 1) ≡ numberOf bs (readNumber bs)
-ended bs i {n} h is =
-    let size : i + 1 ≡ length bs - length (drop (i + 1) bs) = omega (arith, length-drop (i + 1) bs) in
-    ap (numberAt n) size ∙ ap (numberOf bs) (sym is)
-
-returns : tie.Need-returns Inv-loop μ-loop
+returns : tie.Need-returns
 returns c =
     let bs = c .before .before .before .args .bytes .now in
-    let e = c .refused .ensures in
-    (refused bs 7 e (groups-cut (groups-start bs) (omega (arith, c .before .if1 .taken))), (small 7 e, (refl, refl)))
+    let r = said-no bs 7 (c .refused .ensures) (read-none bs (omega (arith, c .before .if1 .taken))) in
+    (r .0, (r .1, refl))
 
-cast-first : tie.Need-cast-first Inv-loop μ-loop
+cast-first : tie.Need-cast-first
 cast-first c = omega (arith, c .shared-slice-known2 .given 0)
 
-returns-2 : tie.Need-returns-2 Inv-loop μ-loop
+returns-2 : tie.Need-returns-2
 returns-2 c =
-    let bs = c .before .before .before .before .args .bytes .now in
-    let b = getD bs 0 0 in
-    let is : 0 + 1 * (b % group) ≡ b = omega arith in
-    let one = groups-done (groups-start bs) (omega arith) refl refl (omega arith) ∙ ap (λ (n : ℕ). got n (drop 1 bs)) is in
-    (ended bs 0 (omega arith) one, (omega arith, (refl, refl)))
+    let bs = c .before .before .before .before .before .args .bytes .now in
+    let r = said bs (getD bs 0 0) 1 (c .taken .ensures) (read-one bs (omega arith) (omega arith)) (omega arith) (omega arith) in
+    (r .0, (r .1, refl))
 
-loop-holds : tie.Need-loop-holds Inv-loop μ-loop
-loop-holds c =
-    let bs = c .before .before .before .before .args .bytes .now in
-    let b = getD bs 0 0 in
-    let value : 0 + 1 * (b % group) ≡ b - group = omega (arith, c .before .shared-slice-known2 .given 0) in
-    let step = groups-step (groups-start bs) (omega arith) refl (omega arith) (omega (arith, c .before .shared-slice-known2 .given 0)) in
-    (omega arith, subst (λ (v : ℕ). Groups bs moreGroups 1 v group) value step)
-
-returns-3 : tie.Need-returns-3 Inv-loop μ-loop
+returns-3 : tie.Need-returns-3
 returns-3 c =
-    let l = c .before .before .before .loop in
-    let bs = c .before .before .before .before .before .before .before .before .args .bytes .now in
-    let e = c .refused2 .ensures in
-    (refused bs 7 e (groups-cut (still (l .inv .1) (omega arith)) (omega arith)), (small 7 e, (refl, refl)))
+    let bs = c .before .before .before .before .before .before .args .bytes .now in
+    let r = said-no bs 7 (c .refused2 .ensures) (read-cut-2 bs (omega (arith, c .before .if3 .taken)) (omega arith)) in
+    (r .0, (r .1, refl))
 
-cast-b : tie.Need-cast-b Inv-loop μ-loop
-cast-b c = omega (arith, c .shared-slice-known3 .given (c .before .before .before .loop .i))
+cast-second : tie.Need-cast-second
+cast-second c = omega (arith, c .shared-slice-known3 .given 1)
 
-returns-4 : tie.Need-returns-4 Inv-loop μ-loop
-returns-4 c =
-    let l = c .before .before .before .before .before .loop in
-    let bs = c .before .before .before .before .before .before .before .before .before .before .args .bytes .now in
-    let e = c .refused3 .ensures in
-    let small-b = c .before .before .shared-slice-known3 .given (l .i) in
-    (refused bs 8 e (groups-wrong (still (l .inv .1) (omega arith)) (omega arith) refl (l .inv .0) (c .before .if4 .taken) (omega (arith, small-b))), (small 8 e, (refl, refl)))
-
--- what a group makes of the number is small
-sum : (c : tie.Else4 Inv-loop μ-loop) →
-    let l = c .before .before .before .before .loop in
-    l .value + l .unit * (getD (c .before .before .before .before .before .before .before .before .before .args .bytes .now) (l .i) 0 % group) < numberLimit
-sum c =
-    let l = c .before .before .before .before .loop in
-    sum-below (still (l .inv .1) (omega arith)) (getD (c .before .before .before .before .before .before .before .before .before .args .bytes .now) (l .i) 0)
-
-mul-part : tie.Need-mul-part Inv-loop μ-loop
-mul-part c = omega (arith, sum c)
-
-add-value : tie.Need-add-value Inv-loop μ-loop
-add-value c = omega (arith, sum c)
-
-returns-5 : tie.Need-returns-5 Inv-loop μ-loop
-returns-5 c =
-    let l = c .before .before .before .before .before .loop in
-    let bs = c .before .before .before .before .before .before .before .before .before .before .args .bytes .now in
-    let is = groups-done (still (l .inv .1) (omega arith)) (omega arith) refl (groups-fine (l .i) (getD bs (l .i) 0) (c .before .if4 .left)) (c .if5 .taken) in
-    (ended bs (l .i) (omega arith) is, (sum (c .before), (refl, refl)))
-
-mul-unit : tie.Need-mul-unit Inv-loop μ-loop
-mul-unit c = omega (arith, unit-below (still (c .before .before .before .before .before .loop .inv .1) (omega arith)))
-
-loop-again : tie.Need-loop-again Inv-loop μ-loop
-loop-again c =
-    let l = c .before .before .before .before .before .loop in
-    let bs = c .before .before .before .before .before .before .before .before .before .before .args .bytes .now in
-    let b = getD bs (l .i) 0 in
-    let e : moreGroups - l .i ≡ suc moreGroups - (l .i + 1) = omega arith in
-    let step = groups-step (still (l .inv .1) (omega arith)) (omega arith) refl (omega arith) (omega (arith, c .before .before .shared-slice-known3 .given (l .i))) in
-    (omega arith, subst (λ (k : ℕ). Groups bs k (l .i + 1) (l .value + l .unit * (b % group)) (l .unit * group)) e step)
-
-returns-6 : tie.Need-returns-6 Inv-loop μ-loop
-returns-6 c =
-    let e = c .refused4 .ensures in
+-- the second group is the last, and there is something in it
+last-two : (c : tie.Then4) →
     let bs = c .before .before .before .before .before .before .before .args .bytes .now in
-    (refused bs 8 e (groups-over (over (c .before .before .loop .inv .1) (omega arith))), (small 8 e, (refl, refl)))
+    (0 < getD bs 1 0) × (getD bs 1 0 < group)
+last-two c =
+    let bs = c .before .before .before .before .before .before .before .args .bytes .now in
+    let f = both (ltb 0 (getD bs 1 0)) (ltb (getD bs 1 0) group) .0 (c .if4 .taken) in
+    (ltb-true 0 (getD bs 1 0) (f .0), ltb-true (getD bs 1 0) group (f .1))
+
+mul-taken : tie.Need-mul-taken
+mul-taken c = omega (arith, last-two c)
+
+add-taken : tie.Need-add-taken
+add-taken c = omega (arith, last-two c, c .before .before .before .before .shared-slice-known2 .given 0)
+
+returns-4 : tie.Need-returns-4
+returns-4 c =
+    let bs = c .before .before .before .before .before .before .before .before .args .bytes .now in
+    let second = last-two (c .before) in
+    let byte = c .before .before .before .before .before .shared-slice-known2 .given 0 in
+    let r = said bs (getD bs 0 0 - group + group * getD bs 1 0) 2 (c .taken2 .ensures)
+    (read-two bs (omega (arith, c .before .before .before .if3 .left)) (omega arith) (second .0) (second .1)) (omega (arith, c .before .before .before .if3 .left)) (omega (arith, byte, second)) in
+    (r .0, (r .1, refl))
+
+returns-5 : tie.Need-returns-5
+returns-5 c =
+    let bs = c .before .before .before .before .before .before .before .before .args .bytes .now in
+    let r = said-no bs 8 (c .refused3 .ensures) (read-wrong-2 bs (omega (arith, c .before .before .before .if3 .left)) (omega arith) (c .before .if4 .left)) in
+    (r .0, (r .1, refl))
 
 pub read-number-spec : {M : Type 1} → statement M
 read-number-spec =
     tie.close
     (tie.spec
-    Inv-loop
-    μ-loop
     (λ c κs. search needs)
     returns
     (λ c. search needs)
     cast-first
+    (λ c κs. search needs)
     returns-2
-    loop-holds
     (λ c κs. search needs)
     returns-3
     (λ c. search needs)
-    cast-b
+    cast-second
+    mul-taken
+    add-taken
     (λ c κs. search needs)
     returns-4
-    mul-part
-    add-value
-    (λ c. search needs)
-    returns-5
-    mul-unit
-    (λ c. search needs)
-    (λ c. search needs)
-    loop-again
     (λ c κs. search needs)
-    returns-6)
+    returns-5)

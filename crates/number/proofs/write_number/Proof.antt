@@ -1,83 +1,57 @@
--- `write_number` meets its contract: in each turn one byte more is put, and what is left is what the others hold (`Written`).
-use Prim.Native.Nat.{_+_, _-_, _<_}
+-- `write_number` meets its contract: the bytes of one group, or of two, are put one behind the other.
+use mathlib.Core.Path.{sym, ap}
+use Prim.Native.Nat.{_+_, _%_, _≤_}
 use native.Mathlib.Omega.{arith}
-use lib.ListN.{length, set}
-use Rattle.sheet.specs.Lent.{Wrote}
-use Rattle.sheet.specs.LentLaws.{wrote-one, wrote-length}
+use lib.ListN.{length, length-set}
+use Rattle.sheet.specs.LentLaws.{wrote-one, wrote-as}
 use borrow.Author.Needs.{needs}
-use Rattle.number.specs.Number.{moreGroups, writeNumber}
-use Rattle.number.specs.GroupsLaws.{Written, goes-on, written-start, written-next, written-end, written-last, written-room}
+use Rattle.number.specs.Number.{group}
+use Rattle.number.specs.WritingLaws.{write-one, write-two, wrote-two-bytes}
 use Rattle.number.proofs.write_number.Statement.{statement}
 use Rattle.number.proofs.write_number.Tie as tie
 
-abbrev Inv-loop : tie.InvT-loop
-Inv-loop n out₀ at left₀ to₀ i₀ out left to i = Written out₀ out at n to left (moreGroups - i)
+-- ---- one group
 
-abbrev μ-loop : tie.MeasureT-loop
-μ-loop n out₀ at left₀ to₀ i₀ out left to i = moreGroups - i
+one : (c : tie.Then1) → c .before .args .at + 1 ≤ length (c .before .args .out .now)
+one c = omega (arith, c .before .pre .1, ap length (write-one (c .before .args .n) (omega arith)))
 
-loop-holds : tie.Need-loop-holds Inv-loop μ-loop
-loop-holds c = written-start (omega arith) (omega arith) (c .pre .0)
+slice-write-out : tie.Need-slice-write-out
+slice-write-out c = omega (arith, one c)
 
-room : (c : tie.At-loop Inv-loop μ-loop) → c .loop .to < length (c .loop .out)
-room c = written-room (c .loop .inv) (c .before .pre .1)
+returns : tie.Need-returns
+returns c = wrote-as (wrote-one (omega arith) (omega (arith, one c))) (sym (write-one (c .before .args .n) (omega arith)))
 
-slice-write-out : tie.Need-slice-write-out Inv-loop μ-loop
-slice-write-out c = room (c .before)
+-- ---- two
 
-add-to : tie.Need-add-to Inv-loop μ-loop
-add-to c = omega (arith, room (c .before), c .before .loop .inv .put .lent, wrote-length (c .before .loop .inv .put))
+two : (c : tie.Else1) → c .before .args .at + 2 ≤ length (c .before .args .out .now)
+two c = omega (arith, c .before .pre .1, ap length (write-two (c .before .args .n) (omega arith) (c .before .pre .0)))
 
-add-i : tie.Need-add-i Inv-loop μ-loop
-add-i c = omega (arith, goes-on (c .before .loop .i) (c .before .loop .left) (c .loop-test .taken))
+slice-write-out-2 : tie.Need-slice-write-out-2
+slice-write-out-2 c = omega (arith, two c)
 
-loop-less : tie.Need-loop-less Inv-loop μ-loop
-loop-less c = omega (arith, goes-on (c .before .loop .i) (c .before .loop .left) (c .loop-test .taken))
+slice-write-out-3 : tie.Need-slice-write-out-3
+slice-write-out-3 c = omega (arith, two c, length-set (c .before .args .out .now) (c .before .args .at) (group + c .before .args .n % group))
 
-loop-again : tie.Need-loop-again Inv-loop μ-loop
-loop-again c =
-    let l = c .before .loop in
-    written-next (l .i) (l .inv) (c .loop-test .taken) (wrote-one (omega (arith, l .inv .put .lent, wrote-length (l .inv .put))) (room (c .before)))
-
-slice-write-out-2 : tie.Need-slice-write-out-2 Inv-loop μ-loop
-slice-write-out-2 c = room (c .before)
-
-add-result : tie.Need-add-result Inv-loop μ-loop
-add-result c = omega (arith, room (c .before), c .before .loop .inv .put .lent, wrote-length (c .before .loop .inv .put))
-
-cast-out-2 : tie.Need-cast-out-2 Inv-loop μ-loop
-cast-out-2 c = omega (arith, written-end (c .before .loop .i) (c .before .loop .inv) (c .loop-test .left))
-
-ended : (c : tie.After-loop Inv-loop μ-loop) →
-    let s = c .before .before in
-    let l = c .before .loop in
-    Wrote (s .args .out .now) (set (l .out) (l .to) (l .left)) (s .args .at) (l .to + 1) (writeNumber (s .args .n))
-ended c =
-    let l = c .before .loop in
-    written-last (l .inv) (written-end (l .i) (l .inv) (c .loop-test .left)) (wrote-one (omega (arith, l .inv .put .lent, wrote-length (l .inv .put))) (room (c .before)))
-
-same-length : tie.Need-same-length Inv-loop μ-loop
-same-length c = wrote-length (ended c)
-
-returns : tie.Need-returns Inv-loop μ-loop
-returns c = ended c
+returns-2 : tie.Need-returns-2
+returns-2 c =
+    let s = c .before in
+    wrote-as (wrote-two-bytes (omega arith) (two c)) (sym (write-two (s .args .n) (omega arith) (s .pre .0)))
 
 pub write-number-spec : {M : Type 1} → statement M
 write-number-spec =
     tie.close
     (tie.spec
-    Inv-loop
-    μ-loop
-    loop-holds
-    (λ c. search needs)
     (λ c. search needs)
     slice-write-out
-    add-to
-    add-i
-    loop-less
-    loop-again
-    cast-out-2
+    (λ c. search needs)
+    (λ c. search needs)
+    returns
+    (λ c. search needs)
+    (λ c. search needs)
     slice-write-out-2
-    add-result
-    same-length
-    returns)
+    (λ c. search needs)
+    (λ c. search needs)
+    slice-write-out-3
+    (λ c. search needs)
+    (λ c. search needs)
+    returns-2)

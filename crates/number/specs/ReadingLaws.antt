@@ -1,0 +1,65 @@
+-- A number, as the code reads it from bytes: byte by byte. To cite:
+--   read-none, read-one           no byte; the number of one group
+--   read-cut-2, read-two, read-wrong-2   the bytes end behind the first; the number of two groups; by the code's test it is none
+-- Assumes nothing.
+use mathlib.Core.Path.{_≡_, refl, ap}
+use mathlib.Core.Bool.{false, _&&_}
+use mathlib.Core.List.{List, [], _∷_}
+use Prim.Native.Nat.{ℕ, zero, suc, _+_, _*_, _-_, _<_, _≤_}
+use native.Mathlib.Omega.{arith}
+use borrow.Author.Tests.{lt-ltb, le-ltb, ltb-false, ne-eqb}
+use lib.Dec.{ltb, eqb}
+use lib.IntN.{pos}
+use lib.ListN.{length, drop, getD}
+use Rattle.number.specs.Number.{group, valueOf, needless, got, no, readGroups, readNumber}
+
+pub read-none : (bs : List ℕ) → length bs ≡ 0 → readNumber bs ≡ no (pos 7)
+unfolding readGroups
+read-none [] h = refl
+read-none (b ∷ bs) h = absurd (omega arith)
+
+pub read-one : (bs : List ℕ) → 0 < length bs → getD bs 0 0 < group → readNumber bs ≡ got (getD bs 0 0) (drop 1 bs)
+unfolding readGroups needless valueOf
+read-one [] h l = absurd (omega arith)
+read-one (b ∷ bs) h l =
+    let is : b + group * 0 ≡ b = omega arith in
+    simp (lt-ltb b group l) (ap (λ (n : ℕ). got n bs) is)
+
+-- ---- the first byte's top bit is set
+
+pub read-cut-2 : (bs : List ℕ) → length bs ≡ 1 → group ≤ getD bs 0 0 → readNumber bs ≡ no (pos 7)
+unfolding readGroups
+read-cut-2 [] h f = absurd (omega arith)
+read-cut-2 (b ∷ []) h f = simp (le-ltb b group f)
+read-cut-2 (b ∷ c ∷ bs) h f = absurd (omega arith)
+
+pub read-two :
+    (bs : List ℕ) → 1 < length bs → group ≤ getD bs 0 0 → 0 < getD bs 1 0 → getD bs 1 0 < group
+    → readNumber bs ≡ got (getD bs 0 0 - group + group * getD bs 1 0) (drop 2 bs)
+unfolding readGroups needless valueOf
+read-two [] h f some l = absurd (omega arith)
+read-two (b ∷ []) h f some l = absurd (omega arith)
+read-two (b ∷ c ∷ bs) h f some l =
+    let is : b - group + group * (c + group * 0) ≡ b - group + group * c = omega arith in
+    simp (le-ltb b group f, lt-ltb c group l, ne-eqb c 0 (λ z. omega arith)) (ap (λ (n : ℕ). got n bs) is)
+
+read-zero-2 : (bs : List ℕ) → 1 < length bs → group ≤ getD bs 0 0 → getD bs 1 0 ≡ 0 → readNumber bs ≡ no (pos 8)
+unfolding readGroups needless
+read-zero-2 [] h f z = absurd (omega arith)
+read-zero-2 (b ∷ []) h f z = absurd (omega arith)
+read-zero-2 (b ∷ c ∷ bs) h f z = simp (le-ltb b group f, lt-ltb c group (omega arith), ap (λ (n : ℕ). eqb n 0) z)
+
+read-over : (bs : List ℕ) → 1 < length bs → group ≤ getD bs 0 0 → group ≤ getD bs 1 0 → readNumber bs ≡ no (pos 8)
+unfolding readGroups
+read-over [] h f l = absurd (omega arith)
+read-over (b ∷ []) h f l = absurd (omega arith)
+read-over (b ∷ c ∷ bs) h f l = simp (le-ltb b group f, le-ltb c group l)
+
+-- the code's test finds that the second group is not such a last one
+pub read-wrong-2 :
+    (bs : List ℕ) → 1 < length bs → group ≤ getD bs 0 0 → (ltb 0 (getD bs 1 0) && ltb (getD bs 1 0) group) ≡ false → readNumber bs ≡ no (pos 8)
+read-wrong-2 bs h f t = go (getD bs 1 0) refl t
+  where
+    go : (c : ℕ) → getD bs 1 0 ≡ c → (ltb 0 c && ltb c group) ≡ false → readNumber bs ≡ no (pos 8)
+    go zero e t = read-zero-2 bs h f e
+    go (suc c) e t = let l = ltb-false (suc c) group (simp (lt-ltb 0 (suc c) (omega arith)) at t) in read-over bs h f (omega arith)
