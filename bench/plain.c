@@ -149,17 +149,25 @@ int64_t plain_list(const int64_t *list, size_t length, int64_t *rows, size_t roo
 
 /* ---- stored drawings */
 
+/* one group of seven bits, and two, hold the numbers below these; the first is also the top bit of a byte, which says that another follows */
+enum { GROUP = 128, TWO_GROUPS = GROUP * GROUP };
+
+/* one to three groups, the low one first; what is asked first is what most numbers are */
 static int64_t number(const uint8_t *bytes, size_t length, size_t *at, int64_t *n)
 {
     if (*at >= length) return 7;
-    uint8_t low = bytes[(*at)++];
-    *n = low;
-    if (low < 128) return 0;
+    uint8_t first = bytes[(*at)++];
+    *n = first;
+    if (first < GROUP) return 0;
     if (*at >= length) return 7;
-    uint8_t high = bytes[(*at)++];
-    if (high >= 128 || high == 0) return 8;
-    *n = low - 128 + 128 * (int64_t)high;
-    return 0;
+    uint8_t second = bytes[(*at)++];
+    *n = first - GROUP + GROUP * (int64_t)second;
+    if (0 < second && second < GROUP) return 0;
+    if (second == 0) return 8;
+    if (*at >= length) return 7;
+    uint8_t third = bytes[(*at)++];
+    *n += TWO_GROUPS * (int64_t)third - TWO_GROUPS; /* without the second byte's top bit */
+    return 0 < third && third < GROUP ? 0 : 8;
 }
 
 /* one object; the bytes have no place for its tag, which is 0 */
@@ -200,17 +208,27 @@ int64_t plain_read(const uint8_t *bytes, size_t length, int64_t *list, size_t ro
     return count * WIDTH;
 }
 
-static size_t width_of(uint64_t n) { return n < 128 ? 1 : 2; }
+static size_t width_of(uint64_t n) { return n < GROUP ? 1 : n < TWO_GROUPS ? 2 : 3; }
 static uint64_t folded(int64_t n) { return n >= 0 ? 2 * (uint64_t)n : 2 * size(n) - 1; }
+
+/* apart, since no number of a drawing that is written has three groups */
+static size_t put_three(uint8_t *bytes, uint64_t n)
+{
+    bytes[0] = (uint8_t)(GROUP + n % GROUP);
+    bytes[1] = (uint8_t)(GROUP + n / GROUP % GROUP);
+    bytes[2] = (uint8_t)(n / TWO_GROUPS);
+    return 3;
+}
 
 static size_t put(uint8_t *bytes, uint64_t n)
 {
-    if (n < 128) {
+    if (n < GROUP) {
         bytes[0] = (uint8_t)n;
         return 1;
     }
-    bytes[0] = (uint8_t)(128 + n % 128);
-    bytes[1] = (uint8_t)(n / 128);
+    if (TWO_GROUPS <= n) return put_three(bytes, n);
+    bytes[0] = (uint8_t)(GROUP + n % GROUP);
+    bytes[1] = (uint8_t)(n / GROUP);
     return 2;
 }
 

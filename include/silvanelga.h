@@ -32,7 +32,7 @@ enum silvanelga_refusal {
     SILVANELGA_NO_POINT = 5,       /*   five numbers that are no point */
     SILVANELGA_WIDE_POINT = 6,     /*   a point too wide for a turn */
     SILVANELGA_BYTES_END = 7,      /* * the bytes end where a number must begin or go on */
-    SILVANELGA_BAD_NUMBER = 8,     /* * a stored number's second byte has its top bit set, or its second group is 0 */
+    SILVANELGA_BAD_NUMBER = 8,     /* * a stored number's third byte has its top bit set, or its last group, not being the first, is 0 */
     SILVANELGA_BYTES_AFTER = 9,    /* * bytes after the last object */
     SILVANELGA_NO_ROOM = 10,       /*   the lent list or byte buffer is too short for the result */
     SILVANELGA_TOO_MANY = 11,      /* * more than 512 objects */

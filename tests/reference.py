@@ -7,6 +7,7 @@ from math import gcd
 
 REACH, MOST, LAST_TAG = 2000, 512, 2_000_000
 WIDTH, ROW = 6, 10                              # numbers of an object in a list, and of a row of a listing
+GROUP, GROUPS = 2**7, 3                         # what seven bits are below, which is also a byte's top bit; and the groups of a number at most
 WIDEST, FAR = 32_000_000, 64_000_000_000        # w and n of a standard point
 NARROW, NEAR = 4_000, 8_000_000                 # w and n of a frame point
 FRAMES = (10**15, 3 * 10**18 + 7)               # the smallest frame that R-13 names, and one above that of demand 3
@@ -90,18 +91,18 @@ def refusal(refusals):
 # ---- stored drawings
 
 def stored_number(data, at):
-    """The number that begins at `at`, and where the next begins."""
-    if at >= len(data):
-        raise Refused(7)
-    first = data[at]
-    if first < 128:
-        return first, at + 1
-    if at + 1 >= len(data):
-        raise Refused(7)
-    second = data[at + 1]
-    if second >= 128 or second == 0:
-        raise Refused(8)
-    return (first - 128) + 128 * second, at + 2
+    """The number that begins at `at`, and where the next begins. Byte by byte, the low group first: the top bit says that another follows."""
+    number = 0
+    for place in range(GROUPS):
+        if at + place >= len(data):
+            raise Refused(7)
+        follows, group = divmod(data[at + place], GROUP)
+        number += group * GROUP ** place
+        if not follows:
+            if place > 0 and group == 0:
+                raise Refused(8)                # fewer groups hold it
+            return number, at + place + 1
+    raise Refused(8)                            # one group more than a number has
 
 
 def read(data):
@@ -136,21 +137,34 @@ def read(data):
 
 
 def write_number(number):
-    return bytes([number]) if number < 128 else bytes([number % 128 + 128, number // 128])
+    """In the fewest groups."""
+    assert 0 <= number < GROUP ** GROUPS, 'no groups hold it'
+    groups = [number % GROUP]
+    while number := number // GROUP:
+        groups.append(number % GROUP)
+    return bytes([*(GROUP + group for group in groups[:-1]), groups[-1]])
+
+
+def folded(coordinate):
+    """The number that it is stored as."""
+    return 2 * coordinate if coordinate >= 0 else -2 * coordinate - 1
+
+
+def places(objects):
+    """The numbers of a stored drawing in their order, each with the name of its place."""
+    yield 'count', len(objects)
+    for kind, *numbers, tag in objects:
+        assert tag == 0, 'a stored drawing has no place for a tag'
+        yield 'kind', kind
+        if kind == 4:
+            yield 'side', numbers[0]
+        else:
+            yield from zip(('px', 'py', 'qx', 'qy'), map(folded, numbers))
 
 
 def write(objects):
     """The bytes of objects that are not refused: their tags are all 0."""
-    out = write_number(len(objects))
-    for kind, *numbers, tag in objects:
-        assert tag == 0, 'a stored drawing has no place for a tag'
-        out += write_number(kind)
-        if kind == 4:
-            out += write_number(numbers[0])
-        else:
-            for n in numbers:
-                out += write_number(2 * n if n >= 0 else -2 * n - 1)
-    return out
+    return b''.join(write_number(number) for _, number in places(objects))
 
 
 # ---- an object cut at the square from -R to R: the two ends of a closed segment, in its direction

@@ -1,9 +1,11 @@
-"""Random sheets, each kind of them made to meet another corner of the rules; bytes damaged on their way; and points, with such as are none."""
+"""Random sheets, each kind of them made to meet another corner of the rules; bytes damaged on their way, and with three groups in every place;
+and points, with such as are none."""
 import math
 import reference
-from reference import WIDEST, FAR, NARROW, NEAR
+from reference import GROUP, GROUPS, WIDEST, FAR, NARROW, NEAR
 
 I64 = 2**63
+LARGEST = GROUP**GROUPS - 1  # stored number
 
 
 def pair(rng, reach):
@@ -118,10 +120,10 @@ def numbers(rng):
 
 
 def damaged(rng, data):
-    """Bytes cut off, added, or changed; often at a number's top bit."""
+    """Bytes cut off, added, or changed, often at a number's top bit; or a number in the place of a byte, often of the count."""
     data = bytearray(data)
     for _ in range(rng.randint(1, 2)):
-        what = rng.randrange(5)
+        what = rng.randrange(6)
         if what == 0 and data:
             del data[rng.randrange(len(data)):]
         elif what == 1:
@@ -129,9 +131,10 @@ def damaged(rng, data):
         elif what == 2 and data:
             data[rng.randrange(len(data))] ^= 1 << rng.randrange(8)
         elif what == 3 and data:
-            data[rng.randrange(len(data))] |= 128
+            data[rng.randrange(len(data))] |= GROUP
         else:
-            data[:1] = reference.write_number(rng.choice((0, 511, 512, 513, 1000, 16383)))
+            at = rng.randrange(len(data)) if what == 4 and data else 0
+            data[at:at + 1] = reference.write_number(rng.choice((0, 511, 512, 513, 1000, GROUP**2 - 1, GROUP**2, LARGEST)))
     return bytes(data)
 
 
@@ -144,6 +147,45 @@ def stored(rng):
         return bytes(rng.choice((0, 1, 2, 3, 4, 5, 127, 128, 129, 160, 255)) for _ in range(rng.randint(0, 24)))
     data = reference.write(sheet(rng))
     return data if which < 5 else damaged(rng, data)
+
+
+# ---- three groups
+
+# what a number of three groups meets in each place of a drawing
+MEETS = {'count': 11, 'kind': 1, 'side': 4, 'px': 2, 'py': 2, 'qx': 2, 'qy': 2}
+
+
+def going_on(data):
+    """The same bytes, but the last says that another group follows."""
+    return data[:-1] + bytes((data[-1] | GROUP,))
+
+
+def three_groups():
+    """Drawings with three groups in the place of one number, each with the name of the place and with what is met there: a number as it should
+    be, one that is cut off, one whose third byte says that another group follows, and one whose last group is 0. Who leaves a third group out,
+    or bits beyond the sixteenth, finds the number that belongs there. Where it is not cut off, what stands behind it does not matter: the rest
+    of the drawing, or nothing."""
+    segment, side = (1, 3, -64, 64, -reference.REACH, 0), (4, 2, 0, 0, 0, 0)
+    numbers = [(place, reference.write_number(number)) for place, number in reference.places([segment, side, segment, side])]
+    for at, (place, own) in enumerate(numbers):
+        front, rest = (b''.join(data for _, data in part) for part in (numbers[:at], numbers[at + 1:]))
+        one, two = going_on(own[:1]), going_on(own).ljust(2, b'\x80')
+        for groups in (one, two, b'\xff', b'\xff\xff'):
+            yield place, 7, front + groups
+        met = [(MEETS[place], groups) for groups in (two + b'\1', two + b'\4', *map(reference.write_number, (GROUP**2, reference.LAST_TAG, LARGEST)))]
+        met += [(8, groups) for groups in (one + b'\0', two + b'\0', two + b'\x80', two + b'\x81', b'\xff\x80\0', b'\xff\xff\xff')]
+        for refusal, groups in met:
+            yield place, refusal, front + groups
+            yield place, refusal, front + groups + rest
+
+
+def longest():
+    return reference.write([(1, -reference.REACH, -reference.REACH, reference.REACH, reference.REACH, 0)] * reference.MOST)
+
+
+def past_longest():
+    """The longest drawing, but its last number goes on past it, and is cut off there, has a last group of 0, a third group, or a fourth."""
+    return [going_on(longest()) + more for more in (b'', b'\0', b'\1', b'\x80', b'\x80\0')]
 
 
 # ---- points

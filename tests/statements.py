@@ -11,6 +11,7 @@ UNREFUSED = {  # these never refuse
     ('number', 'put_stored'),
     ('decimal', 'put_text'), ('decimal', 'put_sized'), ('decimal', 'put_number'), ('decimal', 'put_field'), ('decimal', 'put_fields'),
     ('store', 'start'), ('store', 'open_reader'),
+    ('trial', 'silvanelga_trial_put'),
 }
 
 

@@ -11,6 +11,14 @@ int64_t silvanelga_trial_list(const int64_t *list, size_t length, int64_t *rows,
 int64_t silvanelga_trial_read(const uint8_t *bytes, size_t length, int64_t *list, size_t room);
 int64_t silvanelga_trial_write(const int64_t *list, size_t length, uint8_t *bytes, size_t room);
 
+/* the refusal, and the number that the bytes begin with and how many of them it takes */
+struct stored_number { int64_t refusal; uint64_t value, size; };
+
+struct stored_number silvanelga_trial_number(const uint8_t *bytes, size_t length);
+
+/* puts the bytes of some numbers at a place of bytes, as far as there are cells, and answers the place behind them */
+size_t silvanelga_trial_put(const uint64_t *numbers, size_t count, uint8_t *bytes, size_t length, size_t at);
+
 /* the refusal, the side number or the flag, and the floats, from the front */
 struct shown { int64_t refusal, number; double first, second, third, fourth; };
 

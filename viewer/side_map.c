@@ -63,7 +63,7 @@ static const char *refusal_words(int64_t number)
     case SILVANELGA_SAME_POINTS: return "p equals q";
     case SILVANELGA_NO_SIDE: return "side number not 1 to 4";
     case SILVANELGA_BYTES_END: return "the bytes end where a number must begin or go on";
-    case SILVANELGA_BAD_NUMBER: return "a stored number of more than two groups, or not in the fewest";
+    case SILVANELGA_BAD_NUMBER: return "a stored number of more than three groups, or not in the fewest";
     case SILVANELGA_BYTES_AFTER: return "bytes after the last object";
     case SILVANELGA_TOO_MANY: return "more than 512 objects";
     case SILVANELGA_NO_OBJECT: return "no object of this number";

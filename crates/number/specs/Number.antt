@@ -1,4 +1,5 @@
--- "Stored drawing" of document 01, its numbers: what is written for one, and what is read of bytes. Definitions alone.
+-- "Stored drawing" of document 01, its numbers, as document 02 has them in R-2: a stored number's groups, what is written for one, and what is
+-- read of bytes. Definitions alone.
 use mathlib.Core.Bool.{Bool, false, cond}
 use mathlib.Core.List.{List, [], _∷_, _++_}
 use Prim.Native.Nat.{ℕ, zero, suc, _+_, _*_, _-_, _/_, _%_, _<_, min}
@@ -17,9 +18,9 @@ pub record Bytes (bs : List ℕ) : Type 0 where
 abbrev pub group : ℕ
 group = 128
 
--- "in the fewest groups, two at most"
+-- "A stored number may have up to three groups"
 abbrev pub mostGroups : ℕ
-mostGroups = 2
+mostGroups = 3
 
 -- so many groups hold the numbers below this
 abbrev pub limit : ℕ → ℕ
@@ -32,7 +33,7 @@ numberLimit = limit mostGroups
 abbrev pub largestNumber : ℕ
 largestNumber = numberLimit - 1
 
--- "low group first .. in the fewest groups": a number's groups, k at most; behind the low one come those of what is left, if anything is
+-- "low group first", "still the fewest": a number's groups, k at most; behind the low one come those of what is left, if anything is
 unfoldable pub groupsOf : ℕ → ℕ → List ℕ
 groupsOf zero n = []
 groupsOf (suc k) n = (n % group) ∷ cond (ltb n group) [] (groupsOf k (n / group))
@@ -42,7 +43,7 @@ unfoldable pub valueOf : List ℕ → ℕ
 valueOf [] = 0
 valueOf (g ∷ gs) = g + group * valueOf gs
 
--- more groups than the fewest: the last is 0, and it is not the first
+-- "A last group equal to 0 after the first group": more groups than the fewest
 unfoldable pub needless : List ℕ → Bool
 needless [] = false
 needless (g ∷ []) = false
@@ -85,15 +86,15 @@ next (no n) f = no n
 abbrev pub checked : {A : Type 0} → Bool → ℤ → A → List ℕ → Reading A
 checked bad n a rest = cond bad (no n) (got a rest)
 
--- the groups that bytes begin with, k at most. "7: stored bytes end where a number must begin or go on. 8: a stored number's second byte has
--- its top bit set (at once, before any 7)"
+-- the groups that bytes begin with, k at most. "7: stored bytes end where a number must begin or go on"; "a third byte with its top bit set, is
+-- refusal 8", at once, before any 7 behind it
 unfoldable pub readGroups : ℕ → List ℕ → Reading (List ℕ)
 readGroups zero bs = no (pos 8)
 readGroups (suc k) [] = no (pos 7)
 readGroups (suc k) (b ∷ bs) =
     cond (ltb b group) (got (b ∷ []) bs) (next (readGroups k bs) (λ gs rest. got ((b - group) ∷ gs) rest))
 
--- "or its second group is 0": the number of groups that were read
+-- the number of the groups that were read, or 8
 abbrev pub whole : Reading (List ℕ) → Reading ℕ
 whole r = next r (λ gs rest. checked (needless gs) (pos 8) (valueOf gs) rest)
 

@@ -1,13 +1,13 @@
 -- A number, as the code writes it. To cite:
---   write-one, write-two   the bytes of a number of one group, and of two
---   wrote-two-bytes        two bytes that are put
+--   write-one, write-two, write-three   the bytes of a number of one, two and three groups
+--   wrote-two-bytes, wrote-three-bytes   bytes that are put one behind the other
 --   Own, own-bytes         a number's bytes in cells of their own
 --   put-next, put-none     of the bytes of a piece one more is put; by the code's test there is none to put, or no cell
 -- Assumes nothing.
 use mathlib.Core.Path.{_≡_, refl, sym, ap, _∙_}
 use mathlib.Core.Bool.{Bool, true, false, _&&_}
 use mathlib.Core.List.{List, [], _∷_}
-use Prim.Native.Nat.{ℕ, _+_, _*_, _-_, _/_, _%_, _<_, _≤_}
+use Prim.Native.Nat.{ℕ, suc, _+_, _-_, _/_, _%_, _<_, _≤_}
 use native.Mathlib.Numerals.{add-one}
 use native.Mathlib.Omega.{arith}
 use borrow.Author.Tests.{ltb-true, ltb-false}
@@ -15,19 +15,38 @@ use lib.Dec.{ltb}
 use lib.ListN.{length, getD, set, take, List·getD-append}
 use lib.Seq.{sets, take-suc, take-all, length-take-le}
 use Rattle.sheet.specs.Lent.{largest, Wrote}
-use Rattle.sheet.specs.LentLaws.{clipped-is, sets-front, sets-two, sets-past}
-use Rattle.number.specs.Number.{group, mostGroups, limit, numberLimit, writeNumber}
+use Rattle.sheet.specs.LentLaws.{clipped-is, sets-two, sets-past, wrote-size, wrote-front}
+use Rattle.number.specs.Number.{group, mostGroups, numberLimit, groupsOf, bytesOf, writeNumber}
 use Rattle.number.specs.GroupsLaws.{write-last, write-more, number-most}
 
 pub write-one : (n : ℕ) → n < group → writeNumber n ≡ n ∷ []
-write-one n h = write-last 1 n h
+write-one n h = write-last 2 n h
 
-pub write-two : (n : ℕ) → group ≤ n → n < limit 2 → writeNumber n ≡ (group + n % group) ∷ (n / group) ∷ []
-write-two n h l = write-more 0 n h ∙ ap (λ (rest : List ℕ). (group + n % group) ∷ rest) (write-last 0 (n / group) (omega arith))
+module _ (n : ℕ) (large : group ≤ n) where
+  -- behind the low group
+  more-bytes : writeNumber n ≡ (group + n % group) ∷ bytesOf (groupsOf 2 (n / group))
+  more-bytes = write-more 1 n large
+
+  pub write-two : n / group < group → writeNumber n ≡ (group + n % group) ∷ (n / group) ∷ []
+  write-two h = more-bytes ∙ ap (λ (rest : List ℕ). (group + n % group) ∷ rest) (write-last 1 (n / group) h)
+
+  pub write-three :
+      group ≤ n / group → n < numberLimit → writeNumber n ≡ (group + n % group) ∷ (group + n / group % group) ∷ (n / group / group) ∷ []
+  write-three h l =
+      more-bytes
+      ∙ ap (λ (rest : List ℕ). (group + n % group) ∷ rest)
+      (write-more 0 (n / group) h
+      ∙ ap (λ (rest : List ℕ). (group + n / group % group) ∷ rest) (write-last 0 (n / group / group) (omega arith)))
 
 module _ {d : List ℕ} {at : ℕ} (lent : length d ≤ largest) where
   pub wrote-two-bytes : {a b : ℕ} → at + 2 ≤ length d → Wrote d (set (set d at a) (at + 1) b) at (at + 2) (a ∷ b ∷ [])
   wrote-two-bytes {a} {b} h = record { cells = ap (λ (k : ℕ). set (set d at a) k b) (add-one at); place = sym (clipped-is (omega arith)); lent = lent }
+
+  pub wrote-three-bytes :
+      {a b c : ℕ} → at + 3 ≤ length d → Wrote d (set (set (set d at a) (at + 1) b) (at + 2) c) at (at + 3) (a ∷ b ∷ c ∷ [])
+  wrote-three-bytes {a} {b} {c} h =
+      let next : at + 2 ≡ suc (suc at) = omega arith in
+      record { cells = λ i. set (set (set d at a) (add-one at i) b) (next i) c; place = sym (clipped-is (omega arith)); lent = lent }
 
 -- ---- a number's bytes in cells of their own
 
@@ -38,9 +57,8 @@ pub record Own (own : List ℕ) (n size : ℕ) : Type 0 where
 
 pub own-bytes : {cells own : List ℕ} {n size : ℕ} → length cells ≡ mostGroups → Wrote cells own 0 size (writeNumber n) → Own own n size
 own-bytes {cells} {own} {n} {size} h w =
-    let place = w .place ∙ clipped-is (omega (arith, number-most n)) in
-    let long : size ≡ length (writeNumber n) = omega (arith, place) in
-    let all = w .cells ∙ sets-front (writeNumber n) cells (omega (arith, number-most n)) in
+    let long = wrote-size w ∙ clipped-is (omega (arith, number-most n)) in
+    let all = wrote-front w (omega (arith, number-most n)) in
     record { long = long; cell = λ i l. ap (λ (l : List ℕ). getD l i 0) all ∙ List·getD-append (writeNumber n) _ 0 i (omega (arith, long)) }
 
 -- the first i bytes of a piece are put at a place of d

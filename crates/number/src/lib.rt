@@ -22,9 +22,9 @@ impl Number {
     // A group of seven bits holds the numbers below this. It is also the top bit of a byte, which says that another group follows.
     pub const GROUP: u64 = 128;
     // How many groups a number may have.
-    pub const MOST: usize = 2;
+    pub const MOST: usize = 3;
     // The largest number that so many groups hold.
-    pub const LARGEST: u64 = 16_383;
+    pub const LARGEST: u64 = 2_097_151;
 }
 
 fn taken(value: u64, size: usize) -> Number
@@ -69,6 +69,17 @@ pub fn read_number(bytes: &[u8]) -> Number
     if (0 < second) & (second < Number::GROUP) {
         return taken(low + Number::GROUP * second, 2);
     }
+    if second == 0 {
+        return refused(BAD_NUMBER);
+    }
+    if bytes.len() == 2 {
+        return refused(BYTES_END);
+    }
+    let two = low + Number::GROUP * (second - Number::GROUP);
+    let third = bytes[2] as u64;
+    if (0 < third) & (third < Number::GROUP) {
+        return taken(two + Number::GROUP * Number::GROUP * third, 3);
+    }
     refused(BAD_NUMBER)
 }
 
@@ -106,10 +117,17 @@ fn write_number(n: u64, out: &mut [u8], at: usize) -> usize
         return at + 1;
     }
     let first = Number::GROUP + n % Number::GROUP;
-    let second = n / Number::GROUP;
+    let left = n / Number::GROUP;
     out[at] = first as u8;
+    if left < Number::GROUP {
+        out[at + 1] = left as u8;
+        return at + 2;
+    }
+    let second = Number::GROUP + left % Number::GROUP;
+    let third = left / Number::GROUP;
     out[at + 1] = second as u8;
-    at + 2
+    out[at + 2] = third as u8;
+    at + 3
 }
 
 // How many cells there are from a place on.

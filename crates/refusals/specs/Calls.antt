@@ -1,7 +1,7 @@
 -- Something said of the number that each public call refuses by, 0 where it does not refuse: whatever it is called with, of any answer that
 -- meets its contract (`Post`). The calls that never refuse have no line: those of `whole` and `decimal`, a
 -- given point, a corner, the reach test, the test whether p and q are equal, an object of a list and what is put into lent cells of `sheet`,
--- put_stored of `number`, start and open_reader of `store`.
+-- put_stored of `number` and the call of `trial` for it, start and open_reader of `store`.
 use mathlib.Core.Path.{_≡_}
 use mathlib.Core.Bool.{cond}
 use mathlib.Core.List.{List}
@@ -33,6 +33,7 @@ use Rattle.screen.specs.declared.OnScreen.{OnScreen}
 use Rattle.screen.specs.declared.Boxed.{Boxed}
 use Rattle.screen.specs.Places.{placeSays}
 use Rattle.screen.specs.Boxes.{boxedSays}
+use Rattle.trial.specs.declared.ThreeNumbers.{ThreeNumbers}
 use Rattle.trial.specs.declared.SixNumbers.{SixNumbers}
 use Rattle.spot.specs.declared.TwoEnds.{TwoEnds}
 use Rattle.spot.specs.declared.Answer.{Answer}
@@ -69,6 +70,7 @@ use Rattle.viewer.proofs.silvanelga_side.Reads as viewer-side
 use Rattle.trial.proofs.silvanelga_trial_list.Reads as trial-list
 use Rattle.trial.proofs.silvanelga_trial_read.Reads as trial-read
 use Rattle.trial.proofs.silvanelga_trial_write.Reads as trial-write
+use Rattle.trial.proofs.silvanelga_trial_number.Reads as trial-number
 use Rattle.trial.proofs.silvanelga_trial_place.Reads as trial-place
 use Rattle.trial.proofs.silvanelga_trial_box.Reads as trial-box
 use Rattle.spot.proofs.silvanelga_spot_ends.Reads as spot-ends
@@ -144,6 +146,7 @@ pub record Calls (P : ℤ → Type 0) : Type 0 where
       → trial-read.Post κs (bytes, (out, tt)) r (bytes, (after, tt)) → P r
   pub of-trial-write : (κs : Lfts 2) (list : RefT (List ℤ)) (out after : RefT (List ℕ)) (r : ℤ)
       → trial-write.Post κs (list, (out, tt)) r (list, (after, tt)) → P r
+  pub of-trial-number : (κs : Lfts 1) (bytes : RefT (List ℕ)) (r : ThreeNumbers) → trial-number.Post κs (bytes, tt) r (bytes, tt) → P (r .refusal)
   pub of-trial-place : (κs : Lfts 0) (a : Five) (r : SixNumbers) → trial-place.Post κs a r a → P (r .refusal)
   pub of-trial-box : (κs : Lfts 1) (l : RefT (List ℤ)) (r : SixNumbers) → trial-box.Post κs (l, tt) r (l, tt) → P (r .refusal)
   -- spot: the calls for tests/spot_check.c and tests/circle.c

@@ -53,6 +53,7 @@ use Rattle.rowtext.specs.Text.{objectsWord, rowsWord, refusedWord, rowsText, co
 use Rattle.rowtext.specs.Put.{rowsRefusal}
 use Rattle.screen.specs.Values.{Values, floatAnswer}
 use Rattle.screen.specs.Places.{placeOf}
+use Rattle.trial.specs.declared.ThreeNumbers.{ThreeNumbers}
 use Rattle.trial.specs.declared.SixNumbers.{SixNumbers}
 use Rattle.spot.specs.declared.TwoEnds.{TwoEnds}
 use Rattle.spot.specs.declared.Answer.{Answer}
@@ -214,6 +215,7 @@ calls P f = record {
   of-trial-list = λ κs list out after r e. f _ (known-lent _ (short out (sharing (list .now) * rowWidth)) (known-list (list .now)) (e .0));
   of-trial-read = λ κs bytes out after r e. f _ (known-read (bytes .now) out (e .0));
   of-trial-write = λ κs list out after r e. f _ (known-written (list .now) out (e .0));
+  of-trial-number = λ κs bytes r e. f _ (subst Known (sym (ap (λ (x : ThreeNumbers). x .refusal) e)) (number-known (bytes .now)));
   of-trial-place = λ κs a r e. f _ (subst Known (sym (ap (λ (x : SixNumbers). x .refusal) e ∙ told-refusal _ _ (place-told _))) (known-point _));
   of-trial-box = λ κs l r e. f _ (subst Known (sym (ap (λ (x : SixNumbers). x .refusal) e ∙ told-refusal _ _ refl)) (known-list (l .now)));
   of-spot-ends = λ κs o r e. f _ (known-shown _ _ (known-object o) (ap (λ (x : TwoEnds). x .refusal) e));

@@ -15,7 +15,7 @@ pub const NO_POINT: i64 = 5;
 pub const WIDE_POINT: i64 = 6;
 // the bytes end where a number must begin or go on
 pub const BYTES_END: i64 = 7;
-// a stored number with a group too many, or with a last group of 0
+// a stored number's third byte has its top bit set (at once, before any 7), or its last group, not being the first, is 0
 pub const BAD_NUMBER: i64 = 8;
 // bytes after the last object
 pub const BYTES_AFTER: i64 = 9;

@@ -1,4 +1,4 @@
--- Stored objects and drawings, worked out byte by byte by document 01's rules, with the refusal first met where two or more would
+-- Stored objects and drawings, worked out byte by byte by the documents' rules, with the refusal first met where two or more would
 -- do. A definition that says something else is refused here, whatever the code does.
 use mathlib.Core.Path.{_≡_, refl}
 use mathlib.Core.List.{List, [], _∷_, _++_}
@@ -54,11 +54,21 @@ pub record WorkedStored : Type 0 where
   count-first : (writeDrawing theirNumbers ≡ twoSides) × (readDrawing twoSides ≡ record { objects = theirNumbers; refusal = pos 0 })
   -- "7: stored bytes end where a number must begin or go on"
   bytes-end : (refusal [] ≡ pos 7) × (refusal (128 ∷ []) ≡ pos 7) × (ofOne [] ≡ pos 7) × (ofOne (4 ∷ []) ≡ pos 7) × (ofOne (1 ∷ 0 ∷ 0 ∷ 0 ∷ []) ≡ pos 7)
-  -- "8: a stored number's second byte has its top bit set (at once, before any 7), or its second group is 0"
-  third-group : (refusal (128 ∷ 128 ∷ []) ≡ pos 8) × (refusal (129 ∷ 129 ∷ 1 ∷ []) ≡ pos 8) × (ofOne (4 ∷ 129 ∷ 255 ∷ []) ≡ pos 8)
-  second-group-0 : (refusal (128 ∷ 0 ∷ []) ≡ pos 8) × (refusal (130 ∷ 0 ∷ 4 ∷ []) ≡ pos 8) × (ofOne (4 ∷ 129 ∷ 0 ∷ []) ≡ pos 8)
+  -- "8": "A last group equal to 0 after the first group, or a third byte with its top bit set" (at once, before any 7)
+  third-top-bit :
+      (refusal (128 ∷ 128 ∷ 128 ∷ []) ≡ pos 8) × (refusal (129 ∷ 129 ∷ 129 ∷ 1 ∷ []) ≡ pos 8) × (ofOne (4 ∷ 129 ∷ 255 ∷ 128 ∷ []) ≡ pos 8)
+  last-group-0 :
+      (refusal (128 ∷ 0 ∷ []) ≡ pos 8) × (refusal (130 ∷ 0 ∷ 4 ∷ []) ≡ pos 8) × (ofOne (4 ∷ 129 ∷ 0 ∷ []) ≡ pos 8)
+      × (refusal (128 ∷ 128 ∷ 0 ∷ []) ≡ pos 8) × (ofOne (1 ∷ 255 ∷ 128 ∷ 0 ∷ []) ≡ pos 8)
+  -- `80 80`, which met 8 in document 01: the number goes on
+  second-top-bit : (refusal (128 ∷ 128 ∷ []) ≡ pos 7) × (ofOne (4 ∷ 129 ∷ 255 ∷ []) ≡ pos 7)
+  -- "A coordinate or count of three groups now meets 2 or 11 where it met 8, and a kind or side number meets 1 or 4"
+  three-groups-met :
+      (ofOne (1 ∷ 128 ∷ 128 ∷ 1 ∷ []) ≡ pos 2) × (ofOne (2 ∷ 0 ∷ 255 ∷ 255 ∷ 127 ∷ []) ≡ pos 2) × (ofOne (3 ∷ 0 ∷ 0 ∷ 129 ∷ 128 ∷ 1 ∷ []) ≡ pos 2)
+      × (ofOne (1 ∷ 0 ∷ 0 ∷ 0 ∷ 128 ∷ 128 ∷ 1 ∷ []) ≡ pos 2) × (refusal (129 ∷ 129 ∷ 1 ∷ []) ≡ pos 11) × (ofOne (129 ∷ 128 ∷ 1 ∷ []) ≡ pos 1)
+      × (ofOne (4 ∷ 129 ∷ 128 ∷ 1 ∷ []) ≡ pos 4)
   -- "11: more than 512 objects", as soon as the count is read
-  count-at-the-limit : (refusal (128 ∷ 4 ∷ []) ≡ pos 7) × (refusal (129 ∷ 4 ∷ []) ≡ pos 11) × (refusal (129 ∷ 4 ∷ 128 ∷ 128 ∷ []) ≡ pos 11)
+  count-at-the-limit : (refusal (128 ∷ 4 ∷ []) ≡ pos 7) × (refusal (129 ∷ 4 ∷ []) ≡ pos 11) × (refusal (129 ∷ 4 ∷ 128 ∷ 128 ∷ 128 ∷ []) ≡ pos 11)
   none-stored : readDrawing (0 ∷ []) ≡ record { objects = []; refusal = pos 0 }
   -- "Each number is read whole, then checked, before the next": 1, 2 and 4 before 7 and before what comes later
   kind-checked : (ofOne (0 ∷ []) ≡ pos 1) × (ofOne (5 ∷ []) ≡ pos 1) × (ofOne (129 ∷ 1 ∷ []) ≡ pos 1) × (ofOne (129 ∷ 0 ∷ []) ≡ pos 8)
@@ -108,8 +118,10 @@ worked-stored = record {
   object-read = refl;
   count-first = (refl, refl);
   bytes-end = (refl, refl, refl, refl, refl);
-  third-group = (refl, refl, refl);
-  second-group-0 = (refl, refl, refl);
+  third-top-bit = (refl, refl, refl);
+  last-group-0 = (refl, refl, refl, refl, refl);
+  second-top-bit = (refl, refl);
+  three-groups-met = (refl, refl, refl, refl, refl, refl, refl);
   count-at-the-limit = (refl, refl, refl);
   none-stored = refl;
   kind-checked = (refl, refl, refl, refl);

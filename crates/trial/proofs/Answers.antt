@@ -6,10 +6,13 @@ use Prim.Native.Nat.{ℕ}
 use lib.IntN.{ℤ}
 use contract.Lifetimes.{Lfts}
 use denote.Ref.{RefT}
+use Rattle.trial.specs.declared.ThreeNumbers.{ThreeNumbers}
 use Rattle.trial.specs.declared.SixNumbers.{SixNumbers}
 use Rattle.trial.proofs.silvanelga_trial_list.Reads as trial-list
 use Rattle.trial.proofs.silvanelga_trial_read.Reads as trial-read
 use Rattle.trial.proofs.silvanelga_trial_write.Reads as trial-write
+use Rattle.trial.proofs.silvanelga_trial_number.Reads as trial-number
+use Rattle.trial.proofs.silvanelga_trial_put.Reads as trial-put
 use Rattle.trial.proofs.silvanelga_trial_place.Reads as trial-place
 use Rattle.trial.proofs.silvanelga_trial_box.Reads as trial-box
 
@@ -30,6 +33,17 @@ pub trial-write-answer :
     → trial-write.Post κs (list, (bytes, tt)) r (list, (l, tt)) → trial-write.Post κs (list, (bytes, tt)) s (list, (m, tt))
     → (r ≡ s) × (l .now ≡ m .now)
 trial-write-answer κs list bytes r s l m p q = (p .0 ∙ sym (q .0), p .1 ∙ sym (q .1))
+
+pub trial-number-answer :
+    (κs : Lfts 1) (bytes : RefT (List ℕ)) (r s : ThreeNumbers)
+    → trial-number.Post κs (bytes, tt) r (bytes, tt) → trial-number.Post κs (bytes, tt) s (bytes, tt) → r ≡ s
+trial-number-answer κs bytes r s p q = p ∙ sym q
+
+pub trial-put-answer :
+    (κs : Lfts 2) (numbers out d e : RefT (List ℕ)) (at r s : ℕ)
+    → trial-put.Post κs (numbers, (out, (at, tt))) r (numbers, (d, (at, tt))) → trial-put.Post κs (numbers, (out, (at, tt))) s (numbers, (e, (at, tt)))
+    → (r ≡ s) × (d .now ≡ e .now)
+trial-put-answer κs numbers out d e at r s p q = (p .place ∙ sym (q .place), p .cells ∙ sym (q .cells))
 
 pub trial-place-answer :
     (κs : Lfts 0) (mx nx my ny w : ℤ) (r s : SixNumbers)

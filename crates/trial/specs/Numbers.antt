@@ -1,4 +1,5 @@
--- A place or a box as six numbers that C can take by value: the numbers of what is told, in their order, and 0 for those that it has not.
+-- What C can take by value: a stored number as three numbers; a place or a box as six, those of what is told, in their order, and 0 for those
+-- that it has not.
 use mathlib.Core.List.{List}
 use lib.IntN.{ℤ, pos}
 use lib.ListN.{getD}
@@ -8,8 +9,13 @@ use Rattle.screen.specs.Quotient.{zero+}
 use Rattle.screen.specs.Values.{Values, floatAnswer}
 use Rattle.screen.specs.Places.{placeOf}
 use Rattle.sheet.specs.Lists.{listRefusal}
+use Rattle.number.specs.declared.Number.{Number}
 use Rattle.screen.specs.Boxes.{endsOf, boxOf, boxSays}
 use Rattle.trial.specs.declared.SixNumbers.{SixNumbers}
+use Rattle.trial.specs.declared.ThreeNumbers.{ThreeNumbers}
+
+abbrev pub threeOf : Number → ThreeNumbers
+threeOf n = record { refusal = n .refusal; value = n .value; size = n .size }
 
 abbrev pub sixOf : Values → SixNumbers
 sixOf t = record {

@@ -1,16 +1,17 @@
-// Calls for bench/ and tests/, so that a C program can time the listing and the stored drawings, and compare places and boxes.
+// Calls for bench/ and tests/, so that a C program can time the listing and the stored drawings, and compare stored numbers, places and boxes.
 mod numbers;
 
 use sheet::Point;
 ghost use mathlib.Core.Path.{_≡_};
 ghost use lib.ListN.{length};
 ghost use Rattle.listing.specs.Rows.{rowsOf, sharing};
-ghost use Rattle.sheet.specs.Lent.{filled};
+ghost use Rattle.sheet.specs.Lent.{filled, Wrote};
 ghost use Rattle.sheet.specs.Lists.{listRefusal};
 ghost use Rattle.listing.specs.Listing.{listed};
+ghost use Rattle.number.specs.Number.{writeNumbers, readNumber, numberOf};
 ghost use Rattle.store.specs.Stored.{readDrawing};
 ghost use Rattle.store.specs.Answers.{readAnswer, readInto, writeAnswer, writeInto};
-ghost use Rattle.trial.specs.Numbers.{placeAnswer, boxAnswer};
+ghost use Rattle.trial.specs.Numbers.{threeOf, placeAnswer, boxAnswer};
 
 // A place or a box: the refusal or 0, the side number or the flag, and the floats, from the front.
 #[repr(C)]
@@ -21,6 +22,14 @@ pub struct SixNumbers {
     pub second: f64,
     pub third: f64,
     pub fourth: f64,
+}
+
+// A stored number: the refusal or 0, the number, and how many bytes it takes.
+#[repr(C)]
+pub struct ThreeNumbers {
+    pub refusal: i64,
+    pub value: u64,
+    pub size: usize,
 }
 
 #[no_mangle]
@@ -48,6 +57,28 @@ pub extern "C" fn silvanelga_trial_write(list: &[i64], bytes: &mut [u8]) -> i64
 {
     let write_refusal = store::write_drawing(list, bytes).refusal;
     write_refusal
+}
+
+#[no_mangle]
+pub extern "C" fn silvanelga_trial_number(bytes: &[u8]) -> ThreeNumbers
+    ensures { λ r. ⌜ r ≡ threeOf (numberOf (now (bytes .entry)) (readNumber (now (bytes .entry)))) ⌝ }
+{
+    let read = number::read_number(bytes);
+    let refusal = read.refusal;
+    let value = read.value;
+    let size = read.size;
+    ThreeNumbers {
+        refusal,
+        value,
+        size,
+    }
+}
+
+#[no_mangle]
+pub extern "C" fn silvanelga_trial_put(numbers: &[u64], bytes: &mut [u8], at: usize) -> usize
+    ensures { λ r. ⌜ Wrote (now (bytes .entry)) (now (bytes .exit)) at r (writeNumbers (now (numbers .entry))) ⌝ }
+{
+    number::put_stored(numbers, bytes, at)
 }
 
 #[no_mangle]

@@ -53,6 +53,8 @@ pub fn reading() {
 pub fn groups() {
     say::text(b"80 80");
     read(&[0x80, 0x80]);
+    say::text(b"80 80 80");
+    read(&[0x80, 0x80, 0x80]);
     say::text(b"80");
     read(&[0x80]);
     say::text(b"no bytes");

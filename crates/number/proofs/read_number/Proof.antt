@@ -1,5 +1,6 @@
 -- `read_number` meets its contract: each way out is what the definition reads of such bytes (specs/ReadingLaws).
 use mathlib.Core.Path.{_≡_, refl, sym, ap, _∙_}
+use mathlib.Core.Bool.{true, false, _&&_}
 use mathlib.Core.List.{List}
 use Prim.Native.Nat.{ℕ, _+_, _-_, _*_, _≤_, _<_}
 use native.Mathlib.Omega.{arith}
@@ -11,7 +12,7 @@ use lib.Dec.{ltb}
 use Rattle.sheet.specs.Flags.{both}
 use Rattle.number.specs.declared.Number.{Number}
 use Rattle.number.specs.Number.{group, numberLimit, got, no, readNumber, numberOf}
-use Rattle.number.specs.ReadingLaws.{read-none, read-one, read-cut-2, read-two, read-wrong-2}
+use Rattle.number.specs.ReadingLaws.{read-none, read-one, read-cut-2, read-two, read-zero-2, not-last, read-cut-3, read-three, read-wrong-3}
 use Rattle.number.proofs.read_number.Statement.{statement}
 use Rattle.number.proofs.read_number.Tie as tie
 
@@ -55,14 +56,14 @@ returns-3 c =
 cast-second : tie.Need-cast-second
 cast-second c = omega (arith, c .shared-slice-known3 .given 1)
 
--- the second group is the last, and there is something in it
-last-two : (c : tie.Then4) →
-    let bs = c .before .before .before .before .before .before .before .args .bytes .now in
-    (0 < getD bs 1 0) × (getD bs 1 0 < group)
-last-two c =
-    let bs = c .before .before .before .before .before .before .before .args .bytes .now in
-    let f = both (ltb 0 (getD bs 1 0)) (ltb (getD bs 1 0) group) .0 (c .if4 .taken) in
-    (ltb-true 0 (getD bs 1 0) (f .0), ltb-true (getD bs 1 0) group (f .1))
+-- a group that the code's test takes for the last: there is something in it, and no top bit
+last : (b : ℕ) → (ltb 0 b && ltb b group) ≡ true → (0 < b) × (b < group)
+last b t = let f = both (ltb 0 b) (ltb b group) .0 t in (ltb-true 0 b (f .0), ltb-true b group (f .1))
+
+-- ---- two groups
+
+last-two : (c : tie.Then4) → let bs = c .before .before .before .before .before .before .before .args .bytes .now in (0 < getD bs 1 0) × (getD bs 1 0 < group)
+last-two c = last (getD (c .before .before .before .before .before .before .before .args .bytes .now) 1 0) (c .if4 .taken)
 
 mul-taken : tie.Need-mul-taken
 mul-taken c = omega (arith, last-two c)
@@ -75,14 +76,73 @@ returns-4 c =
     let bs = c .before .before .before .before .before .before .before .before .args .bytes .now in
     let second = last-two (c .before) in
     let byte = c .before .before .before .before .before .shared-slice-known2 .given 0 in
-    let r = said bs (getD bs 0 0 - group + group * getD bs 1 0) 2 (c .taken2 .ensures)
-    (read-two bs (omega (arith, c .before .before .before .if3 .left)) (omega arith) (second .0) (second .1)) (omega (arith, c .before .before .before .if3 .left)) (omega (arith, byte, second)) in
+    let long : 1 < length bs = omega (arith, c .before .before .before .if3 .left) in
+    let r = said bs (getD bs 0 0 - group + group * getD bs 1 0) 2 (c .taken2 .ensures) (read-two bs long (omega arith) (second .0) (second .1))
+    (omega arith) (omega (arith, byte, second)) in
     (r .0, (r .1, refl))
 
 returns-5 : tie.Need-returns-5
 returns-5 c =
-    let bs = c .before .before .before .before .before .before .before .before .args .bytes .now in
-    let r = said-no bs 8 (c .refused3 .ensures) (read-wrong-2 bs (omega (arith, c .before .before .before .if3 .left)) (omega arith) (c .before .if4 .left)) in
+    let bs = c .before .before .before .before .before .before .before .before .before .args .bytes .now in
+    let long : 1 < length bs = omega (arith, c .before .before .before .before .if3 .left) in
+    let r = said-no bs 8 (c .refused3 .ensures) (read-zero-2 bs long (omega arith) (omega (arith, c .before .if5 .taken))) in
+    (r .0, (r .1, refl))
+
+-- ---- three: the second byte's top bit is set
+
+top-two : (c : tie.Else5) → let bs = c .before .before .before .before .before .before .before .before .args .bytes .now in (1 < length bs) × (group ≤ getD bs 1 0) × (getD bs 1 0 < 256)
+top-two c =
+    let bs = c .before .before .before .before .before .before .before .before .args .bytes .now in (
+      omega (arith, c .before .before .before .if3 .left),
+      not-last (getD bs 1 0) (omega (arith, c .if5 .left)) (c .before .if4 .left),
+      omega (arith, c .before .before .shared-slice-known3 .given 1),
+    )
+
+returns-6 : tie.Need-returns-6
+returns-6 c =
+    let bs = c .before .before .before .before .before .before .before .before .before .before .args .bytes .now in
+    let top = top-two (c .before .before) in
+    let r = said-no bs 7 (c .refused4 .ensures) (read-cut-3 bs (omega (arith, c .before .if6 .taken)) (omega arith) (top .1)) in
+    (r .0, (r .1, refl))
+
+sub-two : tie.Need-sub-two
+sub-two c = omega (arith, top-two (c .before))
+
+mul-two : tie.Need-mul-two
+mul-two c = omega (arith, top-two (c .before))
+
+add-two : tie.Need-add-two
+add-two c = omega (arith, top-two (c .before), c .before .before .before .before .before .before .shared-slice-known2 .given 0)
+
+cast-third : tie.Need-cast-third
+cast-third c = omega (arith, c .shared-slice-known4 .given 2)
+
+last-three : (c : tie.Then7) → let bs = c .before .before .before .before .before .before .before .before .before .before .before .args .bytes .now in (0 < getD bs 2 0) × (getD bs 2 0 < group)
+last-three c = last (getD (c .before .before .before .before .before .before .before .before .before .before .before .args .bytes .now) 2 0) (c .if7 .taken)
+
+mul-taken-3 : tie.Need-mul-taken-3
+mul-taken-3 c = omega (arith, last-three c)
+
+add-taken-2 : tie.Need-add-taken-2
+add-taken-2 c = omega (arith, last-three c, top-two (c .before .before .before), c .before .before .before .before .before .before .before .before .shared-slice-known2 .given 0)
+
+returns-7 : tie.Need-returns-7
+returns-7 c =
+    let bs = c .before .before .before .before .before .before .before .before .before .before .before .before .args .bytes .now in
+    let third = last-three (c .before) in
+    let top = top-two (c .before .before .before .before) in
+    let byte = c .before .before .before .before .before .before .before .before .before .shared-slice-known2 .given 0 in
+    let long : 2 < length bs = omega (arith, top .0, c .before .before .before .if6 .left) in
+    let r = said bs (getD bs 0 0 - group + group * (getD bs 1 0 - group) + group * group * getD bs 2 0) 3 (c .taken3 .ensures)
+    (read-three bs long (omega arith) (top .1) (third .0) (third .1)) (omega arith) (omega (arith, byte, top, third)) in
+    (r .0, (r .1, refl))
+
+returns-8 : tie.Need-returns-8
+returns-8 c =
+    let bs = c .before .before .before .before .before .before .before .before .before .before .before .before .args .bytes .now in
+    let top = top-two (c .before .before .before .before) in
+    let long : 2 < length bs = omega (arith, top .0, c .before .before .before .if6 .left) in
+    let r = said-no bs 8 (c .refused5 .ensures) (read-wrong-3 bs long (omega arith) (top .1) (c .before .if7 .left)) in
     (r .0, (r .1, refl))
 
 pub read-number-spec : {M : Type 1} → statement M
@@ -104,4 +164,18 @@ read-number-spec =
     (λ c κs. search needs)
     returns-4
     (λ c κs. search needs)
-    returns-5)
+    returns-5
+    (λ c κs. search needs)
+    returns-6
+    sub-two
+    mul-two
+    add-two
+    (λ c. search needs)
+    cast-third
+    (λ c. search needs)
+    mul-taken-3
+    add-taken-2
+    (λ c κs. search needs)
+    returns-7
+    (λ c κs. search needs)
+    returns-8)
