@@ -16,7 +16,7 @@ Said = collections.namedtuple('Said', 'file line made name words')
 # How the prover says that a fact does not hold. All else it says, known or not, shows nothing.
 FACT = re.compile('|'.join((
     r'as printed, the two (types|values|sides) (first )?differ ',
-    r'computed as far as they go, the two (types|values|sides) (are `|(first )?differ )',
+    r'computed as far as they go, the two (types|values|sides|indices) (are `|(first )?differ )',
     r'`[^`]*`\s+≟ `[^`]*`:?\s+does not hold ',
     r'expected type `',
     r'on the face `',

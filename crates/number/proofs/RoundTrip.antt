@@ -2,11 +2,11 @@
 --   Exactly, reads-exactly   any bytes: the number whose own bytes are in front; 7 where with others behind they would begin with one; 8 where not
 --   number-comes-back        a number that is put at the front of bytes is read there, and takes as many as were put
 --   bytes-come-back          of a number that is read the same bytes are put
-use mathlib.Core.Path.{_≡_, refl, sym, ap, subst, _∙_}
+use mathlib.Core.Path.{_≡_, refl, sym, ap, _∙_}
 use mathlib.Core.List.{List, [], _∷_, _++_}
 use Prim.Native.Nat.{ℕ, _-_, _<_, _≤_}
 use native.Mathlib.Omega.{arith}
-use lib.IntN.{ℤ, pos}
+use lib.IntN.{pos}
 use lib.ListN.{length, take, drop, length-append}
 use lib.Seq.{take-at}
 use contract.Lifetimes.{Lfts}

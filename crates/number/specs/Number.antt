@@ -95,11 +95,11 @@ readGroups (suc k) (b ∷ bs) =
     cond (ltb b group) (got (b ∷ []) bs) (next (readGroups k bs) (λ gs rest. got ((b - group) ∷ gs) rest))
 
 -- the number of the groups that were read, or 8
-abbrev pub whole : Reading (List ℕ) → Reading ℕ
-whole r = next r (λ gs rest. checked (needless gs) (pos 8) (valueOf gs) rest)
+abbrev pub numberFrom : Reading (List ℕ) → Reading ℕ
+numberFrom r = next r (λ gs rest. checked (needless gs) (pos 8) (valueOf gs) rest)
 
 abbrev pub readNumber : List ℕ → Reading ℕ
-readNumber bs = whole (readGroups mostGroups bs)
+readNumber bs = numberFrom (readGroups mostGroups bs)
 
 -- the number that is stored as n
 abbrev pub unzigzag : ℕ → ℤ

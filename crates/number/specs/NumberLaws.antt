@@ -5,13 +5,13 @@
 use mathlib.Core.Path.{_≡_, refl, sym, ap, subst, _∙_}
 use mathlib.Core.Bool.{Bool, true, false}
 use mathlib.Core.List.{List, [], _∷_, _++_}
-use Prim.Native.Nat.{ℕ, zero, suc, _+_, _*_, _-_}
+use Prim.Native.Nat.{ℕ, _+_, _-_}
 use native.Mathlib.Omega.{arith}
 use lib.IntN.{pos}
 use lib.ListN.{length, drop, length-append}
 use lib.Seq.{drop-at}
 use Rattle.number.specs.declared.Number.{Number}
-use Rattle.number.specs.Number.{mostGroups, valueOf, needless, Reading, got, no, checked, whole, readNumber, numberOf}
+use Rattle.number.specs.Number.{mostGroups, valueOf, needless, Reading, got, no, checked, numberFrom, readNumber, numberOf}
 use Rattle.number.specs.ReadGroupsLaws.{Behind, read-behind}
 use Rattle.number.specs.ReadGroupsLaws as groups
 use Rattle.number.specs.ReadAs.{ReadAs}
@@ -25,7 +25,7 @@ pub data Numbered (bs : List ℕ) : Reading ℕ → Type 0 where
 pub number-is : (bs : List ℕ) → Numbered bs (readNumber bs)
 number-is bs = go (read-behind mostGroups bs [])
   where
-    go : {r r′ : Reading (List ℕ)} → Behind mostGroups bs [] r r′ → Numbered bs (whole r)
+    go : {r r′ : Reading (List ℕ)} → Behind mostGroups bs [] r r′ → Numbered bs (numberFrom r)
     go groups.over = wrong
     go (groups.cut r h) = ends
     go (groups.taken g gs front rest e l) = second (needless (g ∷ gs))

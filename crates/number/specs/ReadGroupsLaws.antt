@@ -3,7 +3,7 @@
 --   Groups, read-groups   what is read of bytes: groups whose bytes are in front, or too many, or some that end early
 --   bytes-read            the bytes of groups are read as these
 -- Assumes nothing.
-use mathlib.Core.Path.{_≡_, refl, sym, ap, _∙_}
+use mathlib.Core.Path.{_≡_, refl, ap}
 use mathlib.Core.Bool.{Bool, true, false, cond}
 use mathlib.Core.List.{List, [], _∷_, _++_}
 use Prim.Native.Nat.{ℕ, zero, suc, _+_, _-_, _<_, _≤_}
@@ -11,7 +11,7 @@ use native.Mathlib.Omega.{arith}
 use borrow.Author.Tests.{lt-ltb, le-ltb, ltb-true, ltb-false}
 use lib.Dec.{ltb}
 use lib.IntN.{pos}
-use lib.ListN.{length, getD}
+use lib.ListN.{length}
 use Rattle.number.specs.Number.{Bytes, group, needless, bytesOf, Reading, got, no, next, readGroups}
 use Rattle.number.specs.GroupsLaws.{Small, small-more, small-behind, small-one}
 

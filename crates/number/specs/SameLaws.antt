@@ -12,7 +12,7 @@ use borrow.Author.Tests.{leb-true, leb-false}
 use lib.Dec.{leb}
 use lib.IntN.{ℤ, pos}
 use lib.ListN.{length, length-append}
-use Rattle.number.specs.Number.{mostGroups, limit, valueOf, needless, Reading, got, no, next, checked, whole, readNumber}
+use Rattle.number.specs.Number.{mostGroups, limit, valueOf, needless, Reading, got, no, next, checked, numberFrom, readNumber}
 use Rattle.number.specs.GroupsLaws.{large-value}
 use Rattle.number.specs.ReadGroupsLaws.{Behind, read-behind}
 use Rattle.number.specs.ReadGroupsLaws as groups
@@ -56,7 +56,7 @@ pub same-take :
     → Same (suc k + j) bs t (next (readNumber bs) f) (next (readNumber (bs ++ t)) f)
 same-take {B} k j z bs t f h enough refuses s = go (read-behind mostGroups bs t)
   where
-    go : {r r′ : Reading (List ℕ)} → Behind mostGroups bs t r r′ → Same (suc k + j) bs t (next (whole r) f) (next (whole r′) f)
+    go : {r r′ : Reading (List ℕ)} → Behind mostGroups bs t r r′ → Same (suc k + j) bs t (next (numberFrom r) f) (next (numberFrom r′) f)
     go groups.over = off (pos 8)
     go (groups.cut r l) = absurd (omega arith)
     go (groups.taken g gs front rest e l) = second (needless (g ∷ gs)) (large-value g gs)

@@ -6,14 +6,15 @@
 --   number-exact, number-only   what is read is exactly what is written, and nothing else is
 -- Assumes nothing.
 use mathlib.Core.Path.{_≡_, refl, sym, ap, subst, _∙_}
-use mathlib.Core.Bool.{Bool, true, false, cond, true≢false}
+use mathlib.Core.Bool.{Bool, true, false}
 use mathlib.Core.List.{List, [], _∷_, _++_, append-assoc, append-nil}
-use Prim.Native.Nat.{ℕ, zero, suc, _+_, _<_, _≤_}
+use Prim.Native.Nat.{ℕ, suc, _+_, _<_, _≤_}
 use native.Mathlib.Omega.{arith}
 use lib.IntN.{ℤ, pos}
-use lib.ListN.{length, getD, length-append}
+use lib.ListN.{length, length-append}
+use Rattle.whole.specs.Flag.{eqZ}
 use Rattle.whole.specs.Tests.{eqZ-false}
-use Rattle.number.specs.Number.{Bytes, mostGroups, numberLimit, groupsOf, valueOf, needless, bytesOf, writeNumber, Reading, got, no, checked, whole, readGroups, readNumber}
+use Rattle.number.specs.Number.{Bytes, mostGroups, numberLimit, groupsOf, valueOf, needless, bytesOf, writeNumber, Reading, got, no, checked, numberFrom, readGroups, readNumber}
 use Rattle.number.specs.ReadsNumber.{ReadsNumber, taken, cut, wrong}
 use Rattle.number.specs.GroupsLaws.{Small, small-groups, groups-few, value-groups, fewest-groups, value-below, groups-value, behind-fewest}
 use Rattle.number.specs.ReadGroupsLaws.{Behind, read-behind, Groups, read-groups, bytes-read}
@@ -41,8 +42,7 @@ from-checked false n a rest e = from a rest e
 pub number-back : (n : ℕ) (rest : List ℕ) → n < numberLimit → readNumber (writeNumber n ++ rest) ≡ got n rest
 unfolding groupsOf
 number-back n rest h =
-    ap whole
-    (bytes-read mostGroups _ _ rest (small-groups mostGroups n) (groups-few mostGroups n))
+    ap numberFrom (bytes-read mostGroups _ _ rest (small-groups mostGroups n) (groups-few mostGroups n))
     ∙ (λ i. checked (fewest-groups mostGroups n h i) (pos 8) (value-groups mostGroups n h i) rest)
 
 -- what was read, out of the reading
@@ -58,10 +58,6 @@ abbrev refusal : Reading ℕ → ℤ
 refusal (got n rest) = pos 0
 refusal (no z) = z
 
-abbrev isTaken : {A : Type 0} → Reading A → Bool
-isTaken (got a rest) = true
-isTaken (no z) = false
-
 pub number-apart :
     (m n : ℕ) (a b : List ℕ) → m < numberLimit → n < numberLimit → writeNumber m ++ a ≡ writeNumber n ++ b → (m ≡ n) × (a ≡ b)
 number-apart m n a b h k e =
@@ -70,22 +66,25 @@ number-apart m n a b h k e =
 
 -- ---- read, and then written
 
+not-eight : {r : Reading ℕ} → eqZ (refusal r) (pos 8) ≡ false → r ≡ no (pos 8) → ⊥
+not-eight {r} z e = eqZ-false {a = refusal r} {b = pos 8} z (ap refusal e)
+
 -- bytes that are no number are none with others behind them
 eight : (bs : List ℕ) → readNumber bs ≡ no (pos 8) → ReadsNumber bs (no (pos 8))
-eight bs e = wrong (λ n more rest h same. absurd (true≢false (ap isTaken (sym (number-back n rest h) ∙ sym (ap readNumber same) ∙ stays more))))
+eight bs e = wrong (λ n more rest h same. not-eight refl (sym (number-back n rest h) ∙ sym (ap readNumber same) ∙ stays more))
   where
     stays : (more : List ℕ) → readNumber (bs ++ more) ≡ no (pos 8)
     stays more = go (read-behind mostGroups bs more) e
       where
-        go : {r r′ : Reading (List ℕ)} → Behind mostGroups bs more r r′ → whole r ≡ no (pos 8) → whole r′ ≡ no (pos 8)
+        go : {r r′ : Reading (List ℕ)} → Behind mostGroups bs more r r′ → numberFrom r ≡ no (pos 8) → numberFrom r′ ≡ no (pos 8)
         go groups.over e = refl
-        go (groups.cut r h) e = absurd (eqZ-false {a = pos 7} {b = pos 8} refl (ap (refusal) e))
+        go (groups.cut r h) e = absurd (not-eight refl e)
         go (groups.taken g gs front rest f l) e = second (needless (g ∷ gs)) e
           where
             second : (t : Bool) → checked t (pos 8) (valueOf (g ∷ gs)) rest ≡ no (pos 8)
                 → checked t (pos 8) (valueOf (g ∷ gs)) (rest ++ more) ≡ no (pos 8)
             second true e = refl
-            second false e = absurd (true≢false (ap isTaken e))
+            second false e = absurd (not-eight refl e)
 
 -- the groups of a number, by the number that they hold
 module _ {g : ℕ} {gs : List ℕ} (small : Small (g ∷ gs)) (few : length (g ∷ gs) ≤ mostGroups) (fewest : needless (g ∷ gs) ≡ false) where
@@ -99,22 +98,22 @@ module _ {g : ℕ} {gs : List ℕ} (small : Small (g ∷ gs)) (few : length (g �
 early : {bs : List ℕ} (m : ℕ) (a : List ℕ) → m < numberLimit → bs ≡ writeNumber m ++ a
     → (n b : ℕ) (more : List ℕ) → n < numberLimit → bs ++ (b ∷ more) ≡ writeNumber n → ⊥
 early {bs} m a h e n b more k f =
-    let whole = sym (append-assoc (writeNumber m) a (b ∷ more)) ∙ ap (λ (l : List ℕ). l ++ (b ∷ more)) (sym e) ∙ f ∙ sym (append-nil (writeNumber n)) in
-    let none = ap length (number-apart m n (a ++ (b ∷ more)) [] h k whole .1) in
+    let all = sym (append-assoc (writeNumber m) a (b ∷ more)) ∙ ap (λ (l : List ℕ). l ++ (b ∷ more)) (sym e) ∙ f ∙ sym (append-nil (writeNumber n)) in
+    let none = ap length (number-apart m n (a ++ (b ∷ more)) [] h k all .1) in
     omega (arith, none, length-append a (b ∷ more))
 
 pub number-exact : (bs : List ℕ) → Bytes bs → ReadsNumber bs (readNumber bs)
 number-exact bs h = go refl (read-groups mostGroups bs h)
   where
-    go : {r : Reading (List ℕ)} → readGroups mostGroups bs ≡ r → Groups mostGroups bs r → ReadsNumber bs (whole r)
-    go is groups.over = eight bs (ap whole is)
+    go : {r : Reading (List ℕ)} → readGroups mostGroups bs ≡ r → Groups mostGroups bs r → ReadsNumber bs (numberFrom r)
+    go is groups.over = eight bs (ap numberFrom is)
     go is (groups.cut g gs small few e f) =
         let fewest = behind-fewest 0 g gs (f 0) in
         cut (valueOf (g ∷ gs)) 1 [] (is-number small few fewest) (sym e ∙ its-bytes small few fewest)
     go is (groups.taken g gs rest small few e) = second (needless (g ∷ gs)) refl
       where
         second : (t : Bool) → needless (g ∷ gs) ≡ t → ReadsNumber bs (checked t (pos 8) (valueOf (g ∷ gs)) rest)
-        second true f = eight bs (ap whole is ∙ ap (λ (t : Bool). checked t (pos 8) (valueOf (g ∷ gs)) rest) f)
+        second true f = eight bs (ap numberFrom is ∙ ap (λ (t : Bool). checked t (pos 8) (valueOf (g ∷ gs)) rest) f)
         second false f =
             taken (valueOf (g ∷ gs)) rest (is-number small few f) (e ∙ ap (λ (l : List ℕ). l ++ rest) (its-bytes small few f))
 

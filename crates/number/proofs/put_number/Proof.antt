@@ -11,7 +11,7 @@ use lib.Seq.{sets, length-sets, take-all}
 use borrow.Author.Needs.{needs}
 use borrow.Author.Tests.{ltb-true}
 use Rattle.sheet.specs.Flags.{both}
-use Rattle.sheet.specs.Lent.{clipped, Wrote}
+use Rattle.sheet.specs.Lent.{clipped}
 use Rattle.number.specs.Number.{mostGroups, writeNumber}
 use Rattle.number.specs.GroupsLaws.{number-most}
 use Rattle.number.specs.WritingLaws.{Own, own-bytes, put-next, put-none}

@@ -12,8 +12,8 @@ use lib.Dec.{leb}
 use lib.ListN.{length, getD, take, length-append}
 use lib.Seq.{take-all}
 use Rattle.sheet.specs.Flags.{both}
-use Rattle.sheet.specs.Lent.{clipped, Wrote}
-use Rattle.sheet.specs.LentLaws.{clipped-is, wrote-past, wrote-none, wrote-two, wrote-named, wrote-as, wrote-length}
+use Rattle.sheet.specs.Lent.{Wrote}
+use Rattle.sheet.specs.LentLaws.{clipped-is, wrote-none, wrote-two, wrote-named, wrote-as, wrote-length}
 use Rattle.number.specs.Number.{mostGroups, numberLimit, largestNumber, writeNumber, writeNumbers}
 use Rattle.number.specs.Storable.{allStorable}
 use Rattle.number.specs.GroupsLaws.{number-some}

@@ -1,6 +1,6 @@
 -- `read_number` meets its contract: each way out is what the definition reads of such bytes (specs/ReadingLaws).
 use mathlib.Core.Path.{_≡_, refl, sym, ap, _∙_}
-use mathlib.Core.Bool.{true, false, _&&_}
+use mathlib.Core.Bool.{true, _&&_}
 use mathlib.Core.List.{List}
 use Prim.Native.Nat.{ℕ, _+_, _-_, _*_, _≤_, _<_}
 use native.Mathlib.Omega.{arith}
@@ -66,7 +66,7 @@ last-two : (c : tie.Then4) → let bs = c .before .before .before .before .befor
 last-two c = last (getD (c .before .before .before .before .before .before .before .args .bytes .now) 1 0) (c .if4 .taken)
 
 mul-taken : tie.Need-mul-taken
-mul-taken c = omega (arith, last-two c)
+mul-taken c = omega (arith, last-two c, c .before .before .before .before .shared-slice-known2 .given 0)
 
 add-taken : tie.Need-add-taken
 add-taken c = omega (arith, last-two c, c .before .before .before .before .shared-slice-known2 .given 0)
