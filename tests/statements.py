@@ -8,7 +8,7 @@ UNREFUSED = {  # these never refuse
     ('whole', 'sign'), ('whole', 'size'), ('whole', 'gcd'), ('whole', 'or_else'),
     ('sheet', 'Point/given'), ('sheet', 'Point/corner'), ('sheet', 'is_beyond'), ('sheet', 'are_equal'), ('sheet', 'lists/object_at'),
     ('sheet', 'lent/behind'), ('sheet', 'lent/put_byte'), ('sheet', 'lent/put_numbers'),
-    ('number', 'put_stored'),
+    ('number', 'stored_size'), ('number', 'put_stored'),
     ('decimal', 'put_text'), ('decimal', 'put_sized'), ('decimal', 'put_number'), ('decimal', 'put_field'), ('decimal', 'put_fields'),
     ('store', 'start'), ('store', 'open_reader'),
     ('trial', 'silvanelga_trial_put'),

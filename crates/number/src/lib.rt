@@ -130,6 +130,29 @@ fn write_number(n: u64, out: &mut [u8], at: usize) -> usize
     at + 3
 }
 
+// How many bytes a number takes.
+fn size_of(n: u64) -> usize
+    requires { ⌜ n < numberLimit ⌝ }
+    ensures { λ r. ⌜ r ≡ length (writeNumber n) ⌝ }
+{
+    let mut own = [0; Number::MOST];
+    write_number(n, &mut own, 0)
+}
+
+// How many bytes some numbers take, one behind the other. A number past the largest counts as the largest.
+pub fn stored_size(numbers: &[u64]) -> usize
+    ensures { λ r. ⌜ r ≡ length (writeNumbers (now (numbers .entry))) ⌝ }
+{
+    let mut size = 0;
+    let mut i = 0;
+    while i < numbers.len() {
+        let n = clip(numbers[i]);
+        size += size_of(n);
+        i += 1;
+    }
+    size
+}
+
 // How many cells there are from a place on.
 fn room_from(length: usize, at: usize) -> usize
     ensures { λ r. ⌜ r ≡ length - at ⌝ }
@@ -161,8 +184,8 @@ fn put_number(n: u64, out: &mut [u8], at: usize) -> usize
 }
 
 // The bytes of some numbers, one behind the other, at a place of lent bytes, as far as there are cells, and the place behind them. A number
-// past the largest is put as the largest. Where there is no cell the bytes are only counted. Where no number is too large, and there are the
-// most cells that so many take, no byte's cell is looked for: so it is with all objects of a drawing but the last ones.
+// past the largest is put as the largest. Where no number is too large, and there are the most cells that so many take, no byte's cell is
+// looked for: so it is with all objects of a drawing but the last ones.
 pub fn put_stored(numbers: &[u64], out: &mut [u8], at: usize) -> usize
     ensures put { λ r. ⌜ Wrote (now (out .entry)) (now (out .exit)) at r (writeNumbers (now (numbers .entry))) ⌝ }
     ensures names { λ r. do ⌜ ((← ⟦Number::MOST⟧ .entry) ≡ mostGroups) × ((← ⟦Number::LARGEST⟧ .entry) ≡ largestNumber) ⌝ }

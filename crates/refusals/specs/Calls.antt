@@ -1,7 +1,7 @@
 -- Something said of the number that each public call refuses by, 0 where it does not refuse: whatever it is called with, of any answer that
 -- meets its contract (`Post`). The calls that never refuse have no line: those of `whole` and `decimal`, a
 -- given point, a corner, the reach test, the test whether p and q are equal, an object of a list and what is put into lent cells of `sheet`,
--- put_stored of `number` and the call of `trial` for it, start and open_reader of `store`.
+-- stored_size and put_stored of `number` and the call of `trial` for it, start and open_reader of `store`.
 use mathlib.Core.Path.{_≡_}
 use mathlib.Core.Bool.{cond}
 use mathlib.Core.List.{List}

@@ -2,7 +2,9 @@
 // gives the place behind, whether or not there is room: put into no bytes they are a count of them, so that an object is written in one place.
 use crate::UNTAGGED;
 use number::put_stored;
+use number::stored_size;
 use sheet::Object;
+use sheet::lent::behind;
 use sheet::lists::list_refusal;
 use sheet::lists::object_at;
 use sheet::refusal::TAG_LOST;
@@ -96,16 +98,22 @@ pub(crate) fn write_refusal(list: &[i64]) -> i64
     TAG_LOST
 }
 
-// Puts an object at a place, and gives the place behind it.
+// Puts an object at a place, and gives the place behind it. Put into no bytes it is counted, by its numbers at once: so it takes half the time.
 pub(crate) fn write_object(o: Object, out: &mut [u8], at: usize) -> usize
     requires { ⌜ Bounded o ⌝ }
     ensures { λ r. ⌜ Wrote (now (out .entry)) (now (out .exit)) at r (writeObject plain o) ⌝ }
 {
     if o.kind == Object::SIDE {
         let numbers = side_numbers(o);
+        if out.len() == 0 {
+            return behind(at, stored_size(&numbers));
+        }
         return put_stored(&numbers, out, at);
     }
     let numbers = pair_numbers(o);
+    if out.len() == 0 {
+        return behind(at, stored_size(&numbers));
+    }
     put_stored(&numbers, out, at)
 }
 
