@@ -4,7 +4,7 @@
 --   not-last                  a byte that is not 0 and not the last, by the code's test
 --   read-cut-3, read-three, read-wrong-3   behind two: no byte; the number of three groups; by the code's test it is none
 -- Assumes nothing.
-use mathlib.Core.Path.{_≡_, refl, ap}
+use mathlib.Core.Path.{_≡_, refl, ap, _∙_}
 use mathlib.Core.Bool.{false, _&&_}
 use mathlib.Core.List.{List, [], _∷_}
 use Prim.Native.Nat.{ℕ, zero, suc, _+_, _*_, _-_, _<_, _≤_}
@@ -12,90 +12,89 @@ use native.Mathlib.Omega.{arith}
 use borrow.Author.Tests.{lt-ltb, le-ltb, ltb-false, ne-eqb}
 use lib.Dec.{ltb, eqb}
 use lib.IntN.{pos}
-use lib.ListN.{length, drop, getD}
+use lib.ListN.{length, drop, getD, drop-of-length-le}
+use lib.Seq.{drop-cons}
 use Rattle.number.specs.Number.{group, valueOf, needless, got, no, readGroups, readNumber}
-
-pub read-none : (bs : List ℕ) → length bs ≡ 0 → readNumber bs ≡ no (pos 7)
-unfolding readGroups
-read-none [] h = refl
-read-none (b ∷ bs) h = absurd (omega arith)
-
-pub read-one : (bs : List ℕ) → 0 < length bs → getD bs 0 0 < group → readNumber bs ≡ got (getD bs 0 0) (drop 1 bs)
-unfolding readGroups needless valueOf
-read-one [] h l = absurd (omega arith)
-read-one (b ∷ bs) h l =
-    let is : b + group * 0 ≡ b = omega arith in
-    simp (lt-ltb b group l) (ap (λ (n : ℕ). got n bs) is)
-
--- ---- the first byte's top bit is set
-
-pub read-cut-2 : (bs : List ℕ) → length bs ≡ 1 → group ≤ getD bs 0 0 → readNumber bs ≡ no (pos 7)
-unfolding readGroups
-read-cut-2 [] h f = absurd (omega arith)
-read-cut-2 (b ∷ []) h f = simp (le-ltb b group f)
-read-cut-2 (b ∷ c ∷ bs) h f = absurd (omega arith)
-
-pub read-two :
-    (bs : List ℕ) → 1 < length bs → group ≤ getD bs 0 0 → 0 < getD bs 1 0 → getD bs 1 0 < group
-    → readNumber bs ≡ got (getD bs 0 0 - group + group * getD bs 1 0) (drop 2 bs)
-unfolding readGroups needless valueOf
-read-two [] h f some l = absurd (omega arith)
-read-two (b ∷ []) h f some l = absurd (omega arith)
-read-two (b ∷ c ∷ bs) h f some l =
-    let is : b - group + group * (c + group * 0) ≡ b - group + group * c = omega arith in
-    simp (le-ltb b group f, lt-ltb c group l, ne-eqb c 0 (λ z. omega arith)) (ap (λ (n : ℕ). got n bs) is)
-
-pub read-zero-2 : (bs : List ℕ) → 1 < length bs → group ≤ getD bs 0 0 → getD bs 1 0 ≡ 0 → readNumber bs ≡ no (pos 8)
-unfolding readGroups needless
-read-zero-2 [] h f z = absurd (omega arith)
-read-zero-2 (b ∷ []) h f z = absurd (omega arith)
-read-zero-2 (b ∷ c ∷ bs) h f z = simp (le-ltb b group f, lt-ltb c group (omega arith), ap (λ (n : ℕ). eqb n 0) z)
 
 -- a group that is not 0, and that the code's test does not take for the last, has the top bit
 pub not-last : (b : ℕ) → 0 < b → (ltb 0 b && ltb b group) ≡ false → group ≤ b
 not-last b some t = ltb-false b group (simp (lt-ltb 0 b some) at t)
 
--- ---- the second one's too
+module _ (bs : List ℕ) where
+  -- the bytes, and the first of them
+  abbrev b : ℕ
+  b = getD bs 0 0
 
-pub read-cut-3 : (bs : List ℕ) → length bs ≡ 2 → group ≤ getD bs 0 0 → group ≤ getD bs 1 0 → readNumber bs ≡ no (pos 7)
-unfolding readGroups
-read-cut-3 [] h f g = absurd (omega arith)
-read-cut-3 (b ∷ []) h f g = absurd (omega arith)
-read-cut-3 (b ∷ c ∷ []) h f g = simp (le-ltb b group f, le-ltb c group g)
-read-cut-3 (b ∷ c ∷ d ∷ bs) h f g = absurd (omega arith)
+  abbrev c : ℕ
+  c = getD bs 1 0
 
-pub read-three :
-    (bs : List ℕ) → 2 < length bs → group ≤ getD bs 0 0 → group ≤ getD bs 1 0 → 0 < getD bs 2 0 → getD bs 2 0 < group
-    → readNumber bs ≡ got (getD bs 0 0 - group + group * (getD bs 1 0 - group) + group * group * getD bs 2 0) (drop 3 bs)
-unfolding readGroups needless valueOf
-read-three [] h f g some l = absurd (omega arith)
-read-three (b ∷ []) h f g some l = absurd (omega arith)
-read-three (b ∷ c ∷ []) h f g some l = absurd (omega arith)
-read-three (b ∷ c ∷ d ∷ bs) h f g some l =
-    let is : b - group + group * (c - group + group * (d + group * 0)) ≡ b - group + group * (c - group) + group * group * d = omega arith in
-    simp (le-ltb b group f, le-ltb c group g, lt-ltb d group l, ne-eqb d 0 (λ z. omega arith)) (ap (λ (n : ℕ). got n bs) is)
+  abbrev d : ℕ
+  d = getD bs 2 0
 
-read-zero-3 : (bs : List ℕ) → 2 < length bs → group ≤ getD bs 0 0 → group ≤ getD bs 1 0 → getD bs 2 0 ≡ 0 → readNumber bs ≡ no (pos 8)
-unfolding readGroups needless
-read-zero-3 [] h f g z = absurd (omega arith)
-read-zero-3 (b ∷ []) h f g z = absurd (omega arith)
-read-zero-3 (b ∷ c ∷ []) h f g z = absurd (omega arith)
-read-zero-3 (b ∷ c ∷ d ∷ bs) h f g z =
-    simp (le-ltb b group f, le-ltb c group g, lt-ltb d group (omega arith), ap (λ (n : ℕ). eqb n 0) z)
+  one : 0 < length bs → bs ≡ b ∷ drop 1 bs
+  one h = drop-cons bs 0 0 h
 
-read-over : (bs : List ℕ) → 2 < length bs → group ≤ getD bs 0 0 → group ≤ getD bs 1 0 → group ≤ getD bs 2 0 → readNumber bs ≡ no (pos 8)
-unfolding readGroups
-read-over [] h f g l = absurd (omega arith)
-read-over (b ∷ []) h f g l = absurd (omega arith)
-read-over (b ∷ c ∷ []) h f g l = absurd (omega arith)
-read-over (b ∷ c ∷ d ∷ bs) h f g l = simp (le-ltb b group f, le-ltb c group g, le-ltb d group l)
+  two : 1 < length bs → bs ≡ b ∷ c ∷ drop 2 bs
+  two h = one (omega arith) ∙ ap (λ (l : List ℕ). b ∷ l) (drop-cons bs 1 0 h)
 
--- the code's test finds that the third group is not such a last one
-pub read-wrong-3 :
-    (bs : List ℕ) → 2 < length bs → group ≤ getD bs 0 0 → group ≤ getD bs 1 0 → (ltb 0 (getD bs 2 0) && ltb (getD bs 2 0) group) ≡ false
-    → readNumber bs ≡ no (pos 8)
-read-wrong-3 bs h f g t = go (getD bs 2 0) refl t
-  where
-    go : (d : ℕ) → getD bs 2 0 ≡ d → (ltb 0 d && ltb d group) ≡ false → readNumber bs ≡ no (pos 8)
-    go zero e t = read-zero-3 bs h f g e
-    go (suc d) e t = let l = not-last (suc d) (omega arith) t in read-over bs h f g (omega arith)
+  three : 2 < length bs → bs ≡ b ∷ c ∷ d ∷ drop 3 bs
+  three h = two (omega arith) ∙ ap (λ (l : List ℕ). b ∷ c ∷ l) (drop-cons bs 2 0 h)
+
+  pub read-none : length bs ≡ 0 → readNumber bs ≡ no (pos 7)
+  unfolding readGroups
+  read-none h = ap readNumber (drop-of-length-le bs {i = 0} (omega arith))
+
+  pub read-one : 0 < length bs → b < group → readNumber bs ≡ got b (drop 1 bs)
+  unfolding readGroups needless valueOf
+  read-one h l =
+      let is : b + group * 0 ≡ b = omega arith in
+      ap readNumber (one h) ∙ simp (lt-ltb b group l) (ap (λ (n : ℕ). got n (drop 1 bs)) is)
+
+  -- the first byte's top bit is set
+  module _ (f : group ≤ b) where
+    pub read-cut-2 : length bs ≡ 1 → readNumber bs ≡ no (pos 7)
+    unfolding readGroups
+    read-cut-2 h = ap readNumber (one (omega arith) ∙ ap (λ (l : List ℕ). b ∷ l) (drop-of-length-le bs {i = 1} (omega arith))) ∙ simp (le-ltb b group f)
+
+    pub read-two : 1 < length bs → 0 < c → c < group → readNumber bs ≡ got (b - group + group * c) (drop 2 bs)
+    unfolding readGroups needless valueOf
+    read-two h some l =
+        let is : b - group + group * (c + group * 0) ≡ b - group + group * c = omega arith in
+        ap readNumber (two h)
+        ∙ simp (le-ltb b group f, lt-ltb c group l, ne-eqb c 0 (λ z. omega arith)) (ap (λ (n : ℕ). got n (drop 2 bs)) is)
+
+    pub read-zero-2 : 1 < length bs → c ≡ 0 → readNumber bs ≡ no (pos 8)
+    unfolding readGroups needless
+    read-zero-2 h z = ap readNumber (two h) ∙ simp (le-ltb b group f, lt-ltb c group (omega arith), ap (λ (n : ℕ). eqb n 0) z)
+
+    -- the second one's too
+    module _ (g : group ≤ c) where
+      pub read-cut-3 : length bs ≡ 2 → readNumber bs ≡ no (pos 7)
+      unfolding readGroups
+      read-cut-3 h =
+          ap readNumber (two (omega arith) ∙ ap (λ (l : List ℕ). b ∷ c ∷ l) (drop-of-length-le bs {i = 2} (omega arith)))
+          ∙ simp (le-ltb b group f, le-ltb c group g)
+
+      pub read-three :
+          2 < length bs → 0 < d → d < group → readNumber bs ≡ got (b - group + group * (c - group) + group * group * d) (drop 3 bs)
+      unfolding readGroups needless valueOf
+      read-three h some l =
+          let is : b - group + group * (c - group + group * (d + group * 0)) ≡ b - group + group * (c - group) + group * group * d = omega arith in
+          ap readNumber (three h)
+          ∙ simp (le-ltb b group f, le-ltb c group g, lt-ltb d group l, ne-eqb d 0 (λ z. omega arith)) (ap (λ (n : ℕ). got n (drop 3 bs)) is)
+
+      read-zero-3 : 2 < length bs → d ≡ 0 → readNumber bs ≡ no (pos 8)
+      unfolding readGroups needless
+      read-zero-3 h z =
+          ap readNumber (three h) ∙ simp (le-ltb b group f, le-ltb c group g, lt-ltb d group (omega arith), ap (λ (n : ℕ). eqb n 0) z)
+
+      read-over : 2 < length bs → group ≤ d → readNumber bs ≡ no (pos 8)
+      unfolding readGroups
+      read-over h l = ap readNumber (three h) ∙ simp (le-ltb b group f, le-ltb c group g, le-ltb d group l)
+
+      pub read-wrong-3 : 2 < length bs → (ltb 0 d && ltb d group) ≡ false → readNumber bs ≡ no (pos 8)
+      read-wrong-3 h t = go d refl t
+        where
+          go : (x : ℕ) → d ≡ x → (ltb 0 x && ltb x group) ≡ false → readNumber bs ≡ no (pos 8)
+          go zero e t = read-zero-3 h e
+          go (suc x) e t = let l = not-last (suc x) (omega arith) t in read-over h (omega arith)

@@ -51,6 +51,7 @@ pub fn reading() {
 }
 
 pub fn groups() {
+    // 8 in document 01; since document 02's R-2 a third group may follow
     say::text(b"80 80");
     read(&[0x80, 0x80]);
     say::text(b"80 80 80");

@@ -50,7 +50,7 @@ returns-2 c =
 returns-3 : tie.Need-returns-3
 returns-3 c =
     let bs = c .before .before .before .before .before .before .args .bytes .now in
-    let r = said-no bs 7 (c .refused2 .ensures) (read-cut-2 bs (omega (arith, c .before .if3 .taken)) (omega arith)) in
+    let r = said-no bs 7 (c .refused2 .ensures) (read-cut-2 bs (omega arith) (omega (arith, c .before .if3 .taken))) in
     (r .0, (r .1, refl))
 
 cast-second : tie.Need-cast-second
@@ -77,7 +77,7 @@ returns-4 c =
     let second = last-two (c .before) in
     let byte = c .before .before .before .before .before .shared-slice-known2 .given 0 in
     let long : 1 < length bs = omega (arith, c .before .before .before .if3 .left) in
-    let r = said bs (getD bs 0 0 - group + group * getD bs 1 0) 2 (c .taken2 .ensures) (read-two bs long (omega arith) (second .0) (second .1))
+    let r = said bs (getD bs 0 0 - group + group * getD bs 1 0) 2 (c .taken2 .ensures) (read-two bs (omega arith) long (second .0) (second .1))
     (omega arith) (omega (arith, byte, second)) in
     (r .0, (r .1, refl))
 
@@ -85,7 +85,7 @@ returns-5 : tie.Need-returns-5
 returns-5 c =
     let bs = c .before .before .before .before .before .before .before .before .before .args .bytes .now in
     let long : 1 < length bs = omega (arith, c .before .before .before .before .if3 .left) in
-    let r = said-no bs 8 (c .refused3 .ensures) (read-zero-2 bs long (omega arith) (omega (arith, c .before .if5 .taken))) in
+    let r = said-no bs 8 (c .refused3 .ensures) (read-zero-2 bs (omega arith) long (omega (arith, c .before .if5 .taken))) in
     (r .0, (r .1, refl))
 
 -- ---- three: the second byte's top bit is set
@@ -102,7 +102,7 @@ returns-6 : tie.Need-returns-6
 returns-6 c =
     let bs = c .before .before .before .before .before .before .before .before .before .before .args .bytes .now in
     let top = top-two (c .before .before) in
-    let r = said-no bs 7 (c .refused4 .ensures) (read-cut-3 bs (omega (arith, c .before .if6 .taken)) (omega arith) (top .1)) in
+    let r = said-no bs 7 (c .refused4 .ensures) (read-cut-3 bs (omega arith) (top .1) (omega (arith, c .before .if6 .taken))) in
     (r .0, (r .1, refl))
 
 sub-two : tie.Need-sub-two
@@ -134,7 +134,7 @@ returns-7 c =
     let byte = c .before .before .before .before .before .before .before .before .before .shared-slice-known2 .given 0 in
     let long : 2 < length bs = omega (arith, top .0, c .before .before .before .if6 .left) in
     let r = said bs (getD bs 0 0 - group + group * (getD bs 1 0 - group) + group * group * getD bs 2 0) 3 (c .taken3 .ensures)
-    (read-three bs long (omega arith) (top .1) (third .0) (third .1)) (omega arith) (omega (arith, byte, top, third)) in
+    (read-three bs (omega arith) (top .1) long (third .0) (third .1)) (omega arith) (omega (arith, byte, top, third)) in
     (r .0, (r .1, refl))
 
 returns-8 : tie.Need-returns-8
@@ -142,7 +142,7 @@ returns-8 c =
     let bs = c .before .before .before .before .before .before .before .before .before .before .before .before .args .bytes .now in
     let top = top-two (c .before .before .before .before) in
     let long : 2 < length bs = omega (arith, top .0, c .before .before .before .if6 .left) in
-    let r = said-no bs 8 (c .refused5 .ensures) (read-wrong-3 bs long (omega arith) (top .1) (c .before .if7 .left)) in
+    let r = said-no bs 8 (c .refused5 .ensures) (read-wrong-3 bs (omega arith) (top .1) long (c .before .if7 .left)) in
     (r .0, (r .1, refl))
 
 pub read-number-spec : {M : Type 1} → statement M
