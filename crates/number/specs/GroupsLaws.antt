@@ -1,5 +1,5 @@
 -- A number's groups, what they hold and their bytes. To cite:
---   Small, small-groups   each group of a list is below 128, and so are a number's
+--   SevenBits, seven-groups   each group of a list is of seven bits, and so are a number's
 --   value-groups, fewest-groups   a number's groups hold it, and none of them is needless
 --   value-below           so many groups hold a small number
 --   groups-value          groups of which none is needless are those of the number that they hold
@@ -17,34 +17,34 @@ use lib.Dec.{ltb}
 use lib.ListN.{length, getD}
 use Rattle.number.specs.Number.{group, mostGroups, limit, groupsOf, valueOf, needless, bytesOf, writeNumber}
 
-pub record Small (gs : List ℕ) : Type 0 where
+pub record SevenBits (gs : List ℕ) : Type 0 where
   pub each : (i : ℕ) → getD gs i 0 < group
 
-pub small-behind : {g : ℕ} {gs : List ℕ} → Small (g ∷ gs) → Small gs
-small-behind h = record { each = λ i. h .each (suc i) }
+pub seven-behind : {g : ℕ} {gs : List ℕ} → SevenBits (g ∷ gs) → SevenBits gs
+seven-behind h = record { each = λ i. h .each (suc i) }
 
-pub small-more : {g : ℕ} {gs : List ℕ} → g < group → Small gs → Small (g ∷ gs)
-small-more {g} {gs} h l = record { each = go }
+pub seven-more : {g : ℕ} {gs : List ℕ} → g < group → SevenBits gs → SevenBits (g ∷ gs)
+seven-more {g} {gs} h l = record { each = go }
   where
     go : (i : ℕ) → getD (g ∷ gs) i 0 < group
     go zero = h
     go (suc i) = l .each i
 
-small-none : Small []
-small-none = record { each = λ i. omega arith }
+seven-none : SevenBits []
+seven-none = record { each = λ i. omega arith }
 
-pub small-one : {g : ℕ} → g < group → Small (g ∷ [])
-small-one h = small-more h small-none
+pub seven-one : {g : ℕ} → g < group → SevenBits (g ∷ [])
+seven-one h = seven-more h seven-none
 
 -- ---- a number's groups
 
-pub small-groups : (k n : ℕ) → Small (groupsOf k n)
+pub seven-groups : (k n : ℕ) → SevenBits (groupsOf k n)
 unfolding groupsOf
-small-groups zero n = small-none
-small-groups (suc k) n = small-more (omega arith) (go (ltb n group) (small-groups k (n / group)))
+seven-groups zero n = seven-none
+seven-groups (suc k) n = seven-more (omega arith) (go (ltb n group) (seven-groups k (n / group)))
   where
-    go : (t : Bool) → Small (groupsOf k (n / group)) → Small (cond t [] (groupsOf k (n / group)))
-    go true h = small-none
+    go : (t : Bool) → SevenBits (groupsOf k (n / group)) → SevenBits (cond t [] (groupsOf k (n / group)))
+    go true h = seven-none
     go false h = h
 
 pub value-groups : (k n : ℕ) → n < limit k → valueOf (groupsOf k n) ≡ n
@@ -82,14 +82,14 @@ fewest-groups (suc k) n h = go (ltb n group) (ltb-false n group)
 
 -- ---- the number that groups hold
 
-pub value-below : (k : ℕ) (gs : List ℕ) → Small gs → length gs ≤ k → valueOf gs < limit k
+pub value-below : (k : ℕ) (gs : List ℕ) → SevenBits gs → length gs ≤ k → valueOf gs < limit k
 unfolding valueOf
 value-below zero [] s h = omega arith
 value-below (suc k) [] s h = omega (arith, value-below k [] s (omega arith))
 value-below zero (g ∷ gs) s h = absurd (omega arith)
 value-below (suc k) (g ∷ gs) s h =
     let e : g < group = s .each 0 in
-    omega (arith, value-below k gs (small-behind s) (omega arith))
+    omega (arith, value-below k gs (seven-behind s) (omega arith))
 
 -- groups behind another, of which none is needless, hold something
 held : (g h : ℕ) (gs : List ℕ) → needless (g ∷ h ∷ gs) ≡ false → 0 < valueOf (h ∷ gs)
@@ -102,7 +102,7 @@ unfolding needless
 behind-fewest g h [] e = refl
 behind-fewest g h (i ∷ gs) e = e
 
-pub groups-value : (k g : ℕ) (gs : List ℕ) → Small (g ∷ gs) → length (g ∷ gs) ≤ k → needless (g ∷ gs) ≡ false → groupsOf k (valueOf (g ∷ gs)) ≡ g ∷ gs
+pub groups-value : (k g : ℕ) (gs : List ℕ) → SevenBits (g ∷ gs) → length (g ∷ gs) ≤ k → needless (g ∷ gs) ≡ false → groupsOf k (valueOf (g ∷ gs)) ≡ g ∷ gs
 unfolding groupsOf valueOf
 groups-value zero g gs s h e = absurd (omega arith)
 groups-value (suc k) g [] s h e =
@@ -115,7 +115,7 @@ groups-value (suc k) g (h ∷ gs) s l e =
     let v = g + group * w in
     let low : v % group ≡ g = omega arith in
     let high : v / group ≡ w = omega arith in
-    let rest = groups-value k h gs (small-behind s) (omega arith) (behind-fewest g h gs e) in
+    let rest = groups-value k h gs (seven-behind s) (omega arith) (behind-fewest g h gs e) in
     simp (le-ltb v group (omega (arith, held g h gs e))) ((λ i. low i ∷ groupsOf k (high i)) ∙ ap (λ (l : List ℕ). g ∷ l) rest)
 
 -- groups of which none is needless: fewer, and one at least, do not hold the number

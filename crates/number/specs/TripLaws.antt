@@ -16,7 +16,7 @@ use Rattle.whole.specs.Flag.{eqZ}
 use Rattle.whole.specs.Tests.{eqZ-false}
 use Rattle.number.specs.Number.{Bytes, mostGroups, numberLimit, groupsOf, valueOf, needless, bytesOf, writeNumber, Reading, got, no, checked, numberFrom, readGroups, readNumber}
 use Rattle.number.specs.ReadsNumber.{ReadsNumber, taken, cut, wrong}
-use Rattle.number.specs.GroupsLaws.{Small, small-groups, groups-few, value-groups, fewest-groups, value-below, groups-value, behind-fewest}
+use Rattle.number.specs.GroupsLaws.{SevenBits, seven-groups, groups-few, value-groups, fewest-groups, value-below, groups-value, behind-fewest}
 use Rattle.number.specs.ReadGroupsLaws.{Behind, read-behind, Groups, read-groups, bytes-read}
 use Rattle.number.specs.ReadGroupsLaws as groups
 
@@ -42,7 +42,7 @@ from-checked false n a rest e = from a rest e
 pub number-back : (n : ℕ) (rest : List ℕ) → n < numberLimit → readNumber (writeNumber n ++ rest) ≡ got n rest
 unfolding groupsOf
 number-back n rest h =
-    ap numberFrom (bytes-read mostGroups _ _ rest (small-groups mostGroups n) (groups-few mostGroups n))
+    ap numberFrom (bytes-read mostGroups _ _ rest (seven-groups mostGroups n) (groups-few mostGroups n))
     ∙ (λ i. checked (fewest-groups mostGroups n h i) (pos 8) (value-groups mostGroups n h i) rest)
 
 -- what was read, out of the reading
@@ -87,7 +87,7 @@ eight bs e = wrong (λ n more rest h same. not-eight refl (sym (number-back n re
             second false e = absurd (not-eight refl e)
 
 -- the groups of a number, by the number that they hold
-module _ {g : ℕ} {gs : List ℕ} (small : Small (g ∷ gs)) (few : length (g ∷ gs) ≤ mostGroups) (fewest : needless (g ∷ gs) ≡ false) where
+module _ {g : ℕ} {gs : List ℕ} (small : SevenBits (g ∷ gs)) (few : length (g ∷ gs) ≤ mostGroups) (fewest : needless (g ∷ gs) ≡ false) where
   is-number : valueOf (g ∷ gs) < numberLimit
   is-number = value-below mostGroups (g ∷ gs) small few
 
