@@ -3,7 +3,7 @@
 --   value-groups, fewest-groups   a number's groups hold it, and none of them is needless
 --   value-below           so many groups hold a small number
 --   groups-value          groups of which none is needless are those of the number that they hold
---   large-value           and fewer do not hold it
+--   large-value, groups-least   and fewer do not hold it
 --   write-last, write-more   the bytes of a number of one group, and of one with more
 --   groups-few, number-some, number-most   a number has no more groups than it may; it takes a byte at least, and no more than its groups
 -- Assumes nothing.
@@ -124,6 +124,20 @@ unfolding valueOf
 large-value g [] e k l = absurd (omega arith)
 large-value g (h ∷ gs) e zero l = omega (arith, held g h gs e)
 large-value g (h ∷ gs) e (suc k) l = omega (arith, large-value h gs (behind-fewest g h gs e) k (omega arith))
+
+-- "the fewest": no groups that hold a number are fewer than its own
+pub groups-least :
+    (k n : ℕ) → n < limit k → (gs : List ℕ) → 0 < length gs → SevenBits gs → valueOf gs ≡ n → length (groupsOf k n) ≤ length gs
+groups-least k n h [] p s e = absurd (omega arith)
+groups-least k n h (x ∷ xs) p s e = go (groupsOf k n) (fewest-groups k n h) (value-groups k n h)
+  where
+    go : (l : List ℕ) → needless l ≡ false → valueOf l ≡ n → length l ≤ suc (length xs)
+    go [] f v = omega arith
+    go (g ∷ hs) f v = second (ltb (length xs) (length hs)) (ltb-true (length xs) (length hs)) (ltb-false (length xs) (length hs))
+      where
+        second : (t : Bool) → (t ≡ true → length xs < length hs) → (t ≡ false → length hs ≤ length xs) → suc (length hs) ≤ suc (length xs)
+        second true y m = absurd (omega (arith, large-value g hs f (length xs) (y refl), value-below (suc (length xs)) (x ∷ xs) s (omega arith)))
+        second false y m = let i = m refl in omega arith
 
 -- ---- bytes
 

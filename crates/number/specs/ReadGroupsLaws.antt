@@ -2,6 +2,7 @@
 --   Behind, read-behind   what is read of bytes, and of them with others behind: the same, unless they end
 --   Groups, read-groups   what is read of bytes: groups whose bytes are in front, or too many, or some that end early
 --   bytes-read            the bytes of groups are read as these
+--   rest-bytes            bytes without the first
 -- Assumes nothing.
 use mathlib.Core.Path.{_≡_, refl, ap}
 use mathlib.Core.Bool.{Bool, true, false, cond}
@@ -45,7 +46,7 @@ pub data Groups (k : ℕ) (bs : List ℕ) : Reading (List ℕ) → Type 0 where
       (g : ℕ) (gs : List ℕ) → SevenBits (g ∷ gs) → length (g ∷ gs) ≤ k → bytesOf (g ∷ gs) ≡ bs ++ (1 ∷ []) → ((x : ℕ) → needless (x ∷ g ∷ gs) ≡ false)
       → Groups k bs (no (pos 7))
 
-rest-bytes : {b : ℕ} {bs : List ℕ} → Bytes (b ∷ bs) → Bytes bs
+pub rest-bytes : {b : ℕ} {bs : List ℕ} → Bytes (b ∷ bs) → Bytes bs
 rest-bytes h = record { each = λ i. h .each (suc i) }
 
 pub read-groups : (k : ℕ) (bs : List ℕ) → Bytes bs → Groups k bs (readGroups k bs)

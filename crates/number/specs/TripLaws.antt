@@ -17,7 +17,7 @@ use Rattle.whole.specs.Tests.{eqZ-false}
 use Rattle.number.specs.Number.{Bytes, mostGroups, numberLimit, groupsOf, valueOf, needless, bytesOf, writeNumber, Reading, got, no, checked, numberFrom, readGroups, readNumber}
 use Rattle.number.specs.ReadsNumber.{ReadsNumber, taken, cut, wrong}
 use Rattle.number.specs.GroupsLaws.{SevenBits, seven-groups, groups-few, value-groups, fewest-groups, value-below, groups-value, behind-fewest}
-use Rattle.number.specs.ReadGroupsLaws.{Behind, read-behind, Groups, read-groups, bytes-read}
+use Rattle.number.specs.ReadGroupsLaws.{rest-bytes, Behind, read-behind, Groups, read-groups, bytes-read}
 use Rattle.number.specs.ReadGroupsLaws as groups
 
 pub behind-bytes : (a : List ℕ) {bs rest : List ℕ} → bs ≡ a ++ rest → Bytes bs → Bytes rest
@@ -25,7 +25,7 @@ behind-bytes a {bs} {rest} e h = go a (subst Bytes e h)
   where
     go : (a : List ℕ) → Bytes (a ++ rest) → Bytes rest
     go [] h = h
-    go (x ∷ a) h = go a (record { each = λ i. h .each (suc i) })
+    go (x ∷ a) h = go a (rest-bytes h)
 
 -- W is what is written for what is read
 pub data From {A : Type 0} (W : A → List ℕ) (bs : List ℕ) : Reading A → Type 0 where

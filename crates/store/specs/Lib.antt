@@ -24,6 +24,8 @@ pub mod ObjectTrip
 pub mod StoredLaws
 -- laws: how long a drawing is
 pub mod LongestLaws
+-- laws: what a number of three groups meets
+pub mod MeetsLaws
 -- laws: the reader
 pub mod StepLaws
 pub mod ReaderLaws

@@ -4,6 +4,7 @@
 --   beginning-decides   and by their beginning: `longest` bytes and one more give the same objects and the same refusal
 --   write-no-longer     what is written is no longer
 --   longest-reached     and a drawing is as long as that
+--   large-beyond, large-outside   what more than two groups hold is no coordinate; what is past a range is outside of it
 -- Assumes nothing.
 use mathlib.Core.Path.{_≡_, refl, sym, ap, subst, _∙_}
 use mathlib.Core.Bool.{Bool, true, false, cond, _||_}
@@ -37,7 +38,7 @@ use Rattle.store.specs.StoredLaws.{read-written}
 -- ---- numbers that are refused where they take more bytes
 
 -- what more than two groups hold is no coordinate
-large-beyond : (start : ℤ) → beyond start ≡ false → (n : ℕ) → limit 2 ≤ n → beyond (start +ℤ unzigzag n) ≡ true
+pub large-beyond : (start : ℤ) → beyond start ≡ false → (n : ℕ) → limit 2 ≤ n → beyond (start +ℤ unzigzag n) ≡ true
 large-beyond start h n l = go (beyond (start +ℤ unzigzag n)) refl
   where
     go : (b : Bool) → beyond (start +ℤ unzigzag n) ≡ b → b ≡ true
@@ -47,7 +48,7 @@ large-beyond start h n l = go (beyond (start +ℤ unzigzag n)) refl
         let is : zigzag (start +ℤ unzigzag n -ℤ start) ≡ n = ap zigzag (back start (unzigzag n)) ∙ zigzag-unzigzag n in
         absurd (omega arith)
 
-large-outside : (lo hi n : ℕ) → hi < n → outside (pos lo) (pos hi) (pos n) ≡ true
+pub large-outside : (lo hi n : ℕ) → hi < n → outside (pos lo) (pos hi) (pos n) ≡ true
 large-outside lo hi n h = go (ltb n lo)
   where
     go : (b : Bool) → (b || ltb hi n) ≡ true
