@@ -16,12 +16,12 @@ use Rattle.number.specs.ReadingLaws.{read-none, read-one, read-cut-2, re
 use Rattle.number.proofs.read_number.Statement.{statement}
 use Rattle.number.proofs.read_number.Tie as tie
 
--- what is answered, and that the number is small
+-- what is answered, that the number is small, and what the bracket holds
 abbrev Says : List ℕ → Number → Type 0
-Says bs r = (r ≡ numberOf bs (readNumber bs)) × (r .value < numberLimit)
+Says bs r = (r ≡ numberOf bs (readNumber bs)) × ((r .value < numberLimit) × (group ≡ group))
 
 said-no : (bs : List ℕ) {r : Number} (n : ℕ) → r ≡ record { refusal = pos n; value = 0; size = 0 } → readNumber bs ≡ no (pos n) → Says bs r
-said-no bs n e f = (e ∙ ap (numberOf bs) (sym f), omega (arith, ap (λ (r : Number). r .value) e))
+said-no bs n e f = (e ∙ ap (numberOf bs) (sym f), (omega (arith, ap (λ (r : Number). r .value) e), refl))
 
 said :
     (bs : List ℕ) {r : Number} (n size : ℕ) → r ≡ record { refusal = pos 0; value = n; size = size } → readNumber bs ≡ got n (drop size bs)
@@ -29,14 +29,13 @@ said :
 said bs n size e f h small =
     let taken : size ≡ length bs - length (drop size bs) = omega (arith, length-drop size bs) in (
       e ∙ ap (λ (k : ℕ). record { refusal = pos 0; value = n; size = k }) taken ∙ ap (numberOf bs) (sym f),
-      omega (arith, ap (λ (r : Number). r .value) e),
+      (omega (arith, ap (λ (r : Number). r .value) e), refl),
     )
 
 returns : tie.Need-returns
 returns c =
     let bs = c .before .before .before .args .bytes .now in
-    let r = said-no bs 7 (c .refused .ensures) (read-none bs (omega (arith, c .before .if1 .taken))) in
-    (r .0, (r .1, refl))
+    said-no bs 7 (c .refused .ensures) (read-none bs (omega (arith, c .before .if1 .taken)))
 
 cast-first : tie.Need-cast-first
 cast-first c = omega (arith, c .shared-slice-known2 .given 0)
@@ -44,14 +43,12 @@ cast-first c = omega (arith, c .shared-slice-known2 .given 0)
 returns-2 : tie.Need-returns-2
 returns-2 c =
     let bs = c .before .before .before .before .before .args .bytes .now in
-    let r = said bs (getD bs 0 0) 1 (c .taken .ensures) (read-one bs (omega arith) (omega arith)) (omega arith) (omega arith) in
-    (r .0, (r .1, refl))
+    said bs (getD bs 0 0) 1 (c .taken .ensures) (read-one bs (omega arith) (omega arith)) (omega arith) (omega arith)
 
 returns-3 : tie.Need-returns-3
 returns-3 c =
     let bs = c .before .before .before .before .before .before .args .bytes .now in
-    let r = said-no bs 7 (c .refused2 .ensures) (read-cut-2 bs (omega arith) (omega (arith, c .before .if3 .taken))) in
-    (r .0, (r .1, refl))
+    said-no bs 7 (c .refused2 .ensures) (read-cut-2 bs (omega arith) (omega (arith, c .before .if3 .taken)))
 
 cast-second : tie.Need-cast-second
 cast-second c = omega (arith, c .shared-slice-known3 .given 1)
@@ -77,16 +74,14 @@ returns-4 c =
     let second = last-two (c .before) in
     let byte = c .before .before .before .before .before .shared-slice-known2 .given 0 in
     let long : 1 < length bs = omega (arith, c .before .before .before .if3 .left) in
-    let r = said bs (getD bs 0 0 - group + group * getD bs 1 0) 2 (c .taken2 .ensures) (read-two bs (omega arith) long (second .0) (second .1))
-    (omega arith) (omega (arith, byte, second)) in
-    (r .0, (r .1, refl))
+    said bs (getD bs 0 0 - group + group * getD bs 1 0) 2 (c .taken2 .ensures) (read-two bs (omega arith) long (second .0) (second .1))
+    (omega arith) (omega (arith, byte, second))
 
 returns-5 : tie.Need-returns-5
 returns-5 c =
     let bs = c .before .before .before .before .before .before .before .before .before .args .bytes .now in
     let long : 1 < length bs = omega (arith, c .before .before .before .before .if3 .left) in
-    let r = said-no bs 8 (c .refused3 .ensures) (read-zero-2 bs (omega arith) long (omega (arith, c .before .if5 .taken))) in
-    (r .0, (r .1, refl))
+    said-no bs 8 (c .refused3 .ensures) (read-zero-2 bs (omega arith) long (omega (arith, c .before .if5 .taken)))
 
 -- ---- three: the second byte's top bit is set
 
@@ -102,8 +97,7 @@ returns-6 : tie.Need-returns-6
 returns-6 c =
     let bs = c .before .before .before .before .before .before .before .before .before .before .args .bytes .now in
     let top = top-two (c .before .before) in
-    let r = said-no bs 7 (c .refused4 .ensures) (read-cut-3 bs (omega arith) (top .1) (omega (arith, c .before .if6 .taken))) in
-    (r .0, (r .1, refl))
+    said-no bs 7 (c .refused4 .ensures) (read-cut-3 bs (omega arith) (top .1) (omega (arith, c .before .if6 .taken)))
 
 sub-two : tie.Need-sub-two
 sub-two c = omega (arith, top-two (c .before))
@@ -133,17 +127,15 @@ returns-7 c =
     let top = top-two (c .before .before .before .before) in
     let byte = c .before .before .before .before .before .before .before .before .before .shared-slice-known2 .given 0 in
     let long : 2 < length bs = omega (arith, top .0, c .before .before .before .if6 .left) in
-    let r = said bs (getD bs 0 0 - group + group * (getD bs 1 0 - group) + group * group * getD bs 2 0) 3 (c .taken3 .ensures)
-    (read-three bs (omega arith) (top .1) long (third .0) (third .1)) (omega arith) (omega (arith, byte, top, third)) in
-    (r .0, (r .1, refl))
+    said bs (getD bs 0 0 - group + group * (getD bs 1 0 - group) + group * group * getD bs 2 0) 3 (c .taken3 .ensures)
+    (read-three bs (omega arith) (top .1) long (third .0) (third .1)) (omega arith) (omega (arith, byte, top, third))
 
 returns-8 : tie.Need-returns-8
 returns-8 c =
     let bs = c .before .before .before .before .before .before .before .before .before .before .before .before .args .bytes .now in
     let top = top-two (c .before .before .before .before) in
     let long : 2 < length bs = omega (arith, top .0, c .before .before .before .if6 .left) in
-    let r = said-no bs 8 (c .refused5 .ensures) (read-wrong-3 bs (omega arith) (top .1) long (c .before .if7 .left)) in
-    (r .0, (r .1, refl))
+    said-no bs 8 (c .refused5 .ensures) (read-wrong-3 bs (omega arith) (top .1) long (c .before .if7 .left))
 
 pub read-number-spec : {M : Type 1} → statement M
 read-number-spec =
