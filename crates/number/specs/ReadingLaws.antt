@@ -1,20 +1,25 @@
 -- A number, as the code reads it: byte by byte. To cite:
 --   read-none, read-one       no byte; the number of one group
 --   read-cut-2, read-two, read-zero-2   behind a top bit: no byte; the number of two groups; a last group of 0
---   not-last                  a byte that is not 0 and not the last, by the code's test
+--   both-less, not-last       what the code's tests say: two orders that hold; a byte that is not 0 and not the last
 --   read-cut-3, read-three, read-wrong-3   behind two: no byte; the number of three groups; by the code's test it is none
 -- Assumes nothing.
 use mathlib.Core.Path.{_≡_, refl, ap, _∙_}
-use mathlib.Core.Bool.{false, _&&_}
-use mathlib.Core.List.{List, [], _∷_}
+use mathlib.Core.Bool.{true, false, _&&_}
+use mathlib.Core.List.{List, _∷_}
 use Prim.Native.Nat.{ℕ, zero, suc, _+_, _*_, _-_, _<_, _≤_}
 use native.Mathlib.Omega.{arith}
-use borrow.Author.Tests.{lt-ltb, le-ltb, ltb-false, ne-eqb}
+use borrow.Author.Tests.{lt-ltb, le-ltb, ltb-true, ltb-false, ne-eqb}
 use lib.Dec.{ltb, eqb}
 use lib.IntN.{pos}
 use lib.ListN.{length, drop, getD, drop-of-length-le}
 use lib.Seq.{drop-cons}
+use Rattle.sheet.specs.Flags.{both}
 use Rattle.number.specs.Number.{group, valueOf, needless, got, no, readGroups, readNumber}
+
+-- a test of the code that asks for two orders
+pub both-less : (a b c d : ℕ) → (ltb a b && ltb c d) ≡ true → (a < b) × (c < d)
+both-less a b c d t = let f = both (ltb a b) (ltb c d) .0 t in (ltb-true a b (f .0), ltb-true c d (f .1))
 
 -- a group that is not 0, and that the code's test does not take for the last, has the top bit
 pub not-last : (b : ℕ) → 0 < b → (ltb 0 b && ltb b group) ≡ false → group ≤ b

@@ -4,16 +4,15 @@ use mathlib.Core.Path.{_≡_, refl, sym, ap, _∙_}
 use mathlib.Core.Logic.{⊎-elim}
 use Prim.Native.Nat.{ℕ, _+_, _-_, _≤_, _<_}
 use native.Mathlib.Omega.{arith}
-use mathlib.Core.Bool.{true, _&&_}
+use mathlib.Core.Bool.{_&&_}
 use lib.Dec.{ltb}
 use lib.ListN.{length, take}
 use lib.Seq.{sets, length-sets, take-all}
 use borrow.Author.Needs.{needs}
-use borrow.Author.Tests.{ltb-true}
-use Rattle.sheet.specs.Flags.{both}
 use Rattle.sheet.specs.Lent.{clipped}
 use Rattle.number.specs.Number.{mostGroups, writeNumber}
 use Rattle.number.specs.GroupsLaws.{number-most}
+use Rattle.number.specs.ReadingLaws.{both-less}
 use Rattle.number.specs.WritingLaws.{Own, own-bytes, put-next, put-none}
 use Rattle.number.proofs.put_number.Statement.{statement}
 use Rattle.number.proofs.put_number.Tie as tie
@@ -29,10 +28,6 @@ write-number-requires c κs = (c .before .before .pre, omega (arith, number-most
 
 loop-holds : tie.Need-loop-holds Inv-loop μ-loop
 loop-holds c = (refl, own-bytes refl (c .before .before .write-number .ensures), omega arith)
-
--- the byte and its cell are there
-there : (i size room : ℕ) → (ltb i size && ltb i room) ≡ true → (i < size) × (i < room)
-there i size room t = let f = both (ltb i size) (ltb i room) .0 t in (ltb-true i size (f .0), ltb-true i room (f .1))
 
 -- no cell is more or less
 same : (c : tie.At-loop Inv-loop μ-loop) →
@@ -50,7 +45,8 @@ cell : (c : tie.Then1 Inv-loop μ-loop) →
     s .args .at + c .before .before .loop .i < length (s .args .out .now)
 cell c =
     let r = c .before .before .before in
-    omega (arith, there (c .before .before .loop .i) (r .before .before .write-number .result) (r .room-from .result) (c .if1 .taken), r .room-from .ensures)
+    let i = c .before .before .loop .i in
+    omega (arith, both-less i (r .before .before .write-number .result) i (r .room-from .result) (c .if1 .taken), r .room-from .ensures)
 
 add-out : tie.Need-add-out Inv-loop μ-loop
 add-out c = omega (arith, cell c)
@@ -71,8 +67,8 @@ loop-again c =
     let room = r .room-from .result in
     let is : c .if1 .out ≡ sets d (s .args .at) (take (l .i + 1) bytes) =
     ⊎-elim
-    (λ w. w .1 ∙ put-next d (l .out) (s .args .at) (l .i) bytes (l .inv .0) (omega (arith, o .long, there (l .i) size room (w .0 .taken)))
-    (o .cell (l .i) (there (l .i) size room (w .0 .taken) .0)))
+    (λ w. w .1 ∙ put-next d (l .out) (s .args .at) (l .i) bytes (l .inv .0) (omega (arith, o .long, both-less (l .i) size (l .i) room (w .0 .taken)))
+    (o .cell (l .i) (both-less (l .i) size (l .i) room (w .0 .taken) .0)))
     (λ w. w .1 ∙ put-none d (l .out) (s .args .at) (l .i) bytes (l .inv .0) room (omega (arith, r .room-from .ensures)) (same at-loop)
     (ap (λ (k : ℕ). ltb (l .i) k && ltb (l .i) room) (sym (o .long)) ∙ w .0 .left))
     (c .if1 .came) in

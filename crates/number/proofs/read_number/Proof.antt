@@ -1,18 +1,14 @@
 -- `read_number` meets its contract: each way out is what the definition reads of such bytes (specs/ReadingLaws).
 use mathlib.Core.Path.{_≡_, refl, sym, ap, _∙_}
-use mathlib.Core.Bool.{true, _&&_}
 use mathlib.Core.List.{List}
 use Prim.Native.Nat.{ℕ, _+_, _-_, _*_, _≤_, _<_}
 use native.Mathlib.Omega.{arith}
 use lib.IntN.{pos}
 use lib.ListN.{length, getD, drop, length-drop}
 use borrow.Author.Needs.{needs}
-use borrow.Author.Tests.{ltb-true}
-use lib.Dec.{ltb}
-use Rattle.sheet.specs.Flags.{both}
 use Rattle.number.specs.declared.Number.{Number}
 use Rattle.number.specs.Number.{group, numberLimit, got, no, readNumber, numberOf}
-use Rattle.number.specs.ReadingLaws.{read-none, read-one, read-cut-2, read-two, read-zero-2, not-last, read-cut-3, read-three, read-wrong-3}
+use Rattle.number.specs.ReadingLaws.{both-less, read-none, read-one, read-cut-2, read-two, read-zero-2, not-last, read-cut-3, read-three, read-wrong-3}
 use Rattle.number.proofs.read_number.Statement.{statement}
 use Rattle.number.proofs.read_number.Tie as tie
 
@@ -53,14 +49,10 @@ returns-3 c =
 cast-second : tie.Need-cast-second
 cast-second c = omega (arith, c .shared-slice-known3 .given 1)
 
--- a group that the code's test takes for the last: there is something in it, and no top bit
-last : (b : ℕ) → (ltb 0 b && ltb b group) ≡ true → (0 < b) × (b < group)
-last b t = let f = both (ltb 0 b) (ltb b group) .0 t in (ltb-true 0 b (f .0), ltb-true b group (f .1))
-
 -- ---- two groups
 
 last-two : (c : tie.Then4) → let bs = c .before .before .before .before .before .before .before .args .bytes .now in (0 < getD bs 1 0) × (getD bs 1 0 < group)
-last-two c = last (getD (c .before .before .before .before .before .before .before .args .bytes .now) 1 0) (c .if4 .taken)
+last-two c = let b = getD (c .before .before .before .before .before .before .before .args .bytes .now) 1 0 in both-less 0 b b group (c .if4 .taken)
 
 mul-taken : tie.Need-mul-taken
 mul-taken c = omega (arith, last-two c, c .before .before .before .before .shared-slice-known2 .given 0)
@@ -112,7 +104,7 @@ cast-third : tie.Need-cast-third
 cast-third c = omega (arith, c .shared-slice-known4 .given 2)
 
 last-three : (c : tie.Then7) → let bs = c .before .before .before .before .before .before .before .before .before .before .before .args .bytes .now in (0 < getD bs 2 0) × (getD bs 2 0 < group)
-last-three c = last (getD (c .before .before .before .before .before .before .before .before .before .before .before .args .bytes .now) 2 0) (c .if7 .taken)
+last-three c = let b = getD (c .before .before .before .before .before .before .before .before .before .before .before .args .bytes .now) 2 0 in both-less 0 b b group (c .if7 .taken)
 
 mul-taken-3 : tie.Need-mul-taken-3
 mul-taken-3 c = omega (arith, last-three c)
