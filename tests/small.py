@@ -1,6 +1,6 @@
 """A small repository in which every guard is content: a library `small` with a public function, another it calls, one whose proof is walked
-by hand and one whose proof the toolchain made, what is said of all its calls, and a program `tell` over it. Nothing here is proved; the logs
-are as the prover writes them."""
+by hand and one whose proof the toolchain made, what is said of all its calls, and a program `tell` over it and over a library `stream`, which
+is the programs'. Nothing here is proved; the logs are as the prover writes them."""
 import os, shutil
 
 LIB = '''// A small library.
@@ -75,6 +75,44 @@ walk : ent _ _
 walk = qed
 '''
 
+STREAM = '''// Bytes out, by C.
+pub mod output;
+
+pub fn front(n: usize) -> usize
+    ensures { λ r. ⌜ r ≡ n ⌝ }
+{
+    n
+}
+'''
+
+OUTPUT = '''fn write_rest(n: usize) -> usize {
+    libc::write(1, n)
+}
+
+pub fn hand_on(whole: bool, n: usize) -> usize
+    ensures { λ r. ⌜ HandedOn whole n r ⌝ }
+{
+    write_rest(n)
+}
+'''
+
+STREAM_ANSWERS = '''use Rattle.stream.proofs.front.Reads as front
+
+pub front-answer : (n r s : ℕ) → front.Post n r → front.Post n s → r ≡ s
+front-answer n r s p q = p ∙ sym q
+'''
+
+STREAM_FAULTS = '''fault: all-{word} in front
+file: src/lib.rt
+old:     n
+new:     {word}
+
+fault: {word}-gone in output/hand_on
+file: src/output.rt
+old:     write_rest(n)
+new:     {word}
+'''
+
 FAULTS = '''fault: twice-of-one in twice
 file: src/lib.rt
 old: inner::sum(x, x)
@@ -116,6 +154,8 @@ TWICE_FACT = '@/proofs/twice/Proof.antt:9:5: error: `returns`: computed as far a
 ONE_FACT = 'note: @/src/more.rt:2:1: it is not proved that what the function ensures holds when it returns (`returns`)\n'
 SUM_FACT = '@/proofs/inner/sum/Proof.antt:4:9: error: `returns`: as printed, the two types first differ where one has `_-_` (expected), at the start\n'
 HELD_FACT = '@/proofs/held/Proof.antt:2:1: error: `exits`: as printed, the two types differ only where one has `1` (expected)\n'
+STREAM_FACTS = ''.join(f'@/proofs/{name}/Proof.antt:1:9: error: `returns`: as printed, the two types first differ where one has `n` (expected), at the start\n'
+                       for name in ('front', 'output/hand_on'))
 REFUSED = 'fn small::twice: not proved\nlogic=not-proved\n'
 
 STATEMENTS = '''# Statements
@@ -125,6 +165,8 @@ STATEMENTS = '''# Statements
 | `small::twice` | `r ≡ doubled x` | `twice-answer` | `twice-of-one`, `twice-of-none` |
 | `small::one` (in `more`) | `r ≡ 1` | `one-answer`, by itself | `always-two`, `always-none` |
 | `small::held` | its place | `held-answer` | `late`, `elsewhere` |
+| `stream::front` | `r ≡ n` | `front-answer` | `all-none`, `all-one` |
+| `stream::hand_on` (in `output`) | `HandedOn whole n r` | none: the system answers | `none-gone`, `one-gone` |
 
 | Promise | Theorem | File |
 |---|---|---|
@@ -148,10 +190,11 @@ pub record Calls (P : ℕ → Type 0) : Type 0 where
 '''
 
 PROVED = 'fn small::twice: proved\nlogic=proved functions=5 sum=0 native=nat,char,string\n'
+STREAMED = 'fn stream::hand_on: proved\naxioms libc: libc::write (1 of the 50 declared)\nlogic=proved functions=3 axioms=1 sum=0\n'
 TOLD = 'fn tell::main: proved\naxioms libc: libc::write (1 of the 50 declared)\nlogic=proved functions=1 axioms=1 sum=0\n'
 
 FILES = {
-    'crates.txt': '# NAME: what it stands on\nsmall:\nrefusals: small\ntell: small io libc\n',
+    'crates.txt': '# NAME: what it stands on\nsmall:\nrefusals: small\nstream: libc\ntell: small stream io libc\n',
     'crates/small/src/lib.rt': LIB,
     'crates/small/src/more.rt': MORE,
     'crates/small/src/inner.rt': INNER,
@@ -165,6 +208,13 @@ FILES = {
     'crates/small/must-fail/faults-2.edit': MORE_FAULTS,
     'crates/small/must-fail/late.edit': LATE,
     'crates/small/must-fail/elsewhere.edit': ELSEWHERE,
+    'crates/stream/src/lib.rt': STREAM,
+    'crates/stream/proofs/front/Proof.antt': 'returns c = refl\n',
+    'crates/stream/src/output.rt': OUTPUT,
+    'crates/stream/proofs/output/hand_on/Proof.antt': 'returns c = refl\n',
+    'crates/stream/proofs/Answers.antt': STREAM_ANSWERS,
+    'crates/stream/must-fail/faults-1.edit': STREAM_FAULTS.replace('{word}', 'none'),
+    'crates/stream/must-fail/faults-2.edit': STREAM_FAULTS.replace('{word}', 'one'),
     'crates/refusals/src/lib.rt': '// Specs only.\n',
     'crates/refusals/specs/Calls.antt': CALLS,
     'crates/tell/src/main.rt': 'fn main() {\n    small::twice(1);\n}\n',
@@ -172,7 +222,10 @@ FILES = {
     'docs/PAPER.md': PAPER,
     'target/ci/small.say': PROVED,
     'target/ci/refusals.say': 'logic=proved functions=0 sum=0\n',
+    'target/ci/stream.say': STREAMED,
     'target/ci/tell.say': TOLD,
+    'target/must-fail/stream/faults-1/.log': STREAM_FACTS + REFUSED,
+    'target/must-fail/stream/faults-2/.log': STREAM_FACTS + REFUSED,
     'target/must-fail/small/faults-1/.log': TWICE_FACT + SUM_FACT + ONE_FACT + REFUSED,
     'target/must-fail/small/faults-2/.log': TWICE_FACT + ONE_FACT + REFUSED,
     'target/must-fail/small/late/.log': HELD_FACT + REFUSED,

@@ -65,6 +65,23 @@ def is_library(root, crate):
     return os.path.exists(f'{root}/crates/{crate}/src/lib.rt')
 
 
+def of_the_programs(root, crate):
+    """Whether a library is the programs' alone: it stands on libraries of the kit, which assume what C functions do."""
+    known = crates(root)
+    return is_library(root, crate) and any(name not in known for name in known[crate])
+
+
+def asking(crate, kit):
+    """The functions of a crate that call one of these libraries of the kit, themselves or by another of the crate."""
+    bodies = {one.path: (one.name, plain(text)[one.body[0]:one.body[1]]) for file, text in sources(crate).items()
+              for one in functions_of(file, text) if one.body}
+    calls, found = rf'\b(?:{"|".join(kit)})\s*::', set()
+    while more := {path for path, (_, body) in bodies.items() if path not in found and re.search(calls, body)}:
+        found |= more
+        calls = '|'.join([calls, *(rf'\b{bodies[path][0]}\s*\(' for path in more)])
+    return found
+
+
 def public(crate):
     """The public functions of a library: each `pub fn` of an `impl`, of lib.rt, and of what lib.rt declares by `pub mod`."""
     shown = re.findall(r'\bpub\s+mod\s+(\w+)\s*;', plain(open(f'{crate}/src/lib.rt').read())) + ['lib']

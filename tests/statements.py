@@ -3,6 +3,7 @@ import glob, os, re
 import edits, source
 
 EQUAL, SHUT_OUT = 'Two answers are equal', 'Shut out'
+SYSTEM = 'none: the system answers'     # for a theorem that two answers are equal, where a function of the programs' libraries asks the system
 CALLS = 'crates/refusals/specs/Calls.antt'
 UNREFUSED = {  # these never refuse
     ('whole', 'sign'), ('whole', 'size'), ('whole', 'gcd'), ('whole', 'or_else'),
@@ -12,12 +13,14 @@ UNREFUSED = {  # these never refuse
     ('decimal', 'put_text'), ('decimal', 'put_sized'), ('decimal', 'put_number'), ('decimal', 'put_field'), ('decimal', 'put_fields'),
     ('store', 'start'), ('store', 'open_reader'),
     ('trial', 'silvanelga_trial_put'),
+    ('stream', 'front'), ('stream', 'output/hand_on'), ('stream', 'input/read_bytes'), ('stream', 'status/status_of'), ('stream', 'status/tell'),
 }
 
 
 def assumptions(root):
     """What a crate takes without proof. The prover says so in its verdict (`foreign=`, `axioms=`) and refuses an `axiom` of its own language;
-    a library that stands on one of the kit's would take over what that assumes, without a word in its own verdict."""
+    a library that stands on one of the kit's takes over what that assumes, without a word in its own verdict. It is the programs' then, and no
+    other library stands on it."""
     crates = source.crates(root)
     for crate, below in crates.items():
         folder, log = f'{root}/crates/{crate}', f'{root}/target/ci/{crate}.say'
@@ -32,7 +35,7 @@ def assumptions(root):
         if 'foreign=' in verdicts[0] or re.search(r'(?m)^fn .*: assumed', said):
             yield f'{crate}: it assumes contracts of C functions'
         for taken in re.findall(r'(?m)^axioms (\w+):', said):
-            if taken in crates or source.is_library(root, crate):
+            if taken in crates or source.is_library(root, crate) and not source.of_the_programs(root, crate):
                 yield f'{crate}: it rests on what {taken} assumes'
         for file, text in source.sources(folder).items():
             if re.search(r'\bextern\s+"C"\s*\{', source.plain(text)):
@@ -41,7 +44,8 @@ def assumptions(root):
             if re.search(r'(?m)^\s*axiom\b|\bPrim\.Axiom\b', open(path).read()):
                 yield f'{crate}: {os.path.relpath(path, folder)} has an axiom'
         if source.is_library(root, crate):
-            yield from (f'{crate}: it is a library, and stands on {name} of the kit' for name in below if name not in crates)
+            yield from (f'{crate}: it is a library, and stands on {name}, which is the programs\'' for name in below
+                        if name in crates and source.of_the_programs(root, name))
 
 
 def contracts(root):
@@ -100,6 +104,13 @@ def is_of_two_answers(folder, crate, theorem, function):
     return kind.lstrip().startswith('pub ') and sum(function in contracts_named(folder, crate, 'Answers', part) for part in parts) >= 2
 
 
+def is_answered_by_the_system(root, crate, function):
+    """Whether a function is of a library of the programs and asks a library of the kit, so that nothing fixes its answer."""
+    crates = source.crates(root)
+    kit = [name for name in crates[crate] if name not in crates]
+    return source.of_the_programs(root, crate) and function in source.asking(f'{root}/crates/{crate}', kit)
+
+
 def rows(text):
     """The rows of the tables of a text, each by the heads of its columns."""
     head = None
@@ -114,7 +125,8 @@ def rows(text):
 
 
 def stated(root):
-    """Every public function has a row in docs/STATEMENTS.md, with the theorem that two answers are equal and two wrong programs."""
+    """Every public function has a row in docs/STATEMENTS.md, with the theorem that two answers are equal, or the words that the system answers
+    where it does, and two wrong programs."""
     found = [row for row in rows(open(f'{root}/docs/STATEMENTS.md').read()) if row['function']]
     known = {}
     for crate in source.crates(root):
@@ -129,8 +141,9 @@ def stated(root):
         if (crate, name) not in known:
             yield f'docs/STATEMENTS.md: {crate}::{name} is no public function'
             continue
-        theorem = re.match(r'`([^`]+)`', row.get(EQUAL, ''))
-        if not theorem or not is_of_two_answers(f'{root}/crates/{crate}', crate, theorem[1], known[crate, name].path):
+        theorem, path = re.match(r'`([^`]+)`', row.get(EQUAL, '')), known[crate, name].path
+        asked = row.get(EQUAL, '') == SYSTEM and is_answered_by_the_system(root, crate, path)
+        if not asked and not (theorem and is_of_two_answers(f'{root}/crates/{crate}', crate, theorem[1], path)):
             yield f'docs/STATEMENTS.md: {crate}::{name}: no theorem of two answers that meet its contract: {row.get(EQUAL, "")}'
         tried, there = set(re.findall(r'`([\w-]+)`', row.get(SHUT_OUT, ''))), set(edits.names(root, crate))
         if tried - there:

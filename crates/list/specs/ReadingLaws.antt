@@ -1,6 +1,6 @@
 -- What the program reads and tells. To cite:
 --   refusal-is      a list for the most objects has room for every drawing, so that reading into it refuses what the drawing does
---   status-is       the status of a drawing, from what `status` answers
+--   status-is       the status of a drawing, from what `status_of` answers
 -- Assumes nothing.
 use mathlib.Core.Path.{_≡_, refl, ap, _∙_}
 use mathlib.Core.Bool.{Bool, true, false, cond}
@@ -19,7 +19,7 @@ use Rattle.number.specs.Number.{Reading}
 use Rattle.store.specs.Answers.{readAnswer}
 use Rattle.store.specs.ObjectsLaws.{objects-length}
 use Rattle.store.specs.SureLaws.{Sure, sure-count}
-use Rattle.list.specs.Moving.{statusOf, statusAll, MayTell}
+use Rattle.stream.specs.Status.{statusOf, statusAll, MayTell}
 
 room : (bs : List ℕ) → readDrawing bs .refusal ≡ pos 0 → length (readDrawing bs .objects) ≤ most * width
 unfolding readDrawing

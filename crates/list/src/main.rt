@@ -1,7 +1,9 @@
-// Reads a stored drawing from standard input and prints its listing. All of its work is in store, listing and rowtext: this moves bytes.
-mod moving; // moving.rt: bytes in and out, by the C library's calls
-
+// Reads a stored drawing from standard input and prints its listing. All of its work is in store, listing and rowtext, and in stream, by which
+// bytes come and go.
 use sheet::Object;
+use stream::front;
+use stream::status::UNREAD;
+use stream::status::status_of;
 ghost use mathlib.Core.Path.{_≡_};
 ghost use Prim.Native.Nat.{_+_, _*_, _-_, _≤_};
 ghost use lib.ListN.{length, take};
@@ -10,7 +12,7 @@ ghost use Rattle.sheet.specs.Limits.{most};
 ghost use Rattle.sheet.specs.Lists.{width, rowWidth};
 ghost use Rattle.store.specs.Stored.{longest, readDrawing};
 ghost use Rattle.rowtext.specs.Put.{rowMost};
-ghost use Rattle.list.specs.Moving.{statusOf, MayTell};
+ghost use Rattle.stream.specs.Status.{MayTell};
 ghost use mathlib.Core.Bool.{true};
 
 // The numbers of the most objects.
@@ -22,15 +24,8 @@ const ROWS: usize = OTHERS * sheet::lists::ROW_WIDTH;
 
 const TEXT: usize = OTHERS * rowtext::ROW_MOST;
 
-// The program's status, which it tells where it was started with an argument: a whole listing, a refused drawing, an input that could not be
-// read, an output that could not be written.
-const LISTED: u8 = b'0';
-
-const REFUSED: u8 = b'1';
-
-const UNREAD: u8 = b'2';
-
-const UNWRITTEN: u8 = b'3';
+// The argument that asks for the program's status, and is printed in front of the listing.
+const HEAD: usize = 1;
 
 // What was said of an object's rows: whether all of it went, and how many there are.
 struct Said {
@@ -48,15 +43,6 @@ fn of_numbers(n: usize, list: &[i64]) -> usize
     list.len()
 }
 
-fn of_bytes(n: usize, text: &[u8]) -> usize
-    ensures { λ r. ⌜ Counts r (now (text .entry)) ⌝ }
-{
-    if n < text.len() {
-        return n;
-    }
-    text.len()
-}
-
 fn of_most(n: usize) -> usize
     ensures { λ r. ⌜ r ≤ most ⌝ }
 {
@@ -66,30 +52,25 @@ fn of_most(n: usize) -> usize
     Object::MOST
 }
 
-fn status(whole: bool, refusal: i64) -> u8
-    ensures { λ r. ⌜ r ≡ statusOf whole refusal ⌝ }
+// Prints a text where all before it went, and answers whether it did too.
+fn print(whole: bool, text: &[u8]) -> bool
+    requires { ⌜ whole ≡ true ⌝ }
 {
-    if !whole {
-        return UNWRITTEN;
-    }
-    if refusal != 0 {
-        return REFUSED;
-    }
-    LISTED
+    let sent = stream::output::hand_on(b"list: standard output", whole, text);
+    sent.whole
 }
 
-// Prints the program's first argument, which the command `./list` makes the line that names a file.
+// Prints that argument, which the command `./list` makes the line that names a file.
 fn say_head(whole: bool) -> bool
     requires { ⌜ whole ≡ true ⌝ }
 {
     let mut text = io::large_buffer();
-    let n = os::arg(1, &mut text);
+    let n = os::arg(HEAD, &mut text);
     if os::errno() == libc::ENAMETOOLONG {
         os::fail(b"list: the line that names a file");
         return false;
     }
-    let sent = moving::hand_on(whole, &text[..n]);
-    sent.whole
+    print(whole, &text[..n])
 }
 
 fn say_refused(whole: bool, number: i64) -> bool
@@ -97,9 +78,8 @@ fn say_refused(whole: bool, number: i64) -> bool
 {
     let mut text = [0u8; rowtext::LINE_MOST];
     let put = rowtext::put_refused(number, &mut text);
-    let n = of_bytes(put.length, &text);
-    let sent = moving::hand_on(whole, &text[..n]);
-    sent.whole
+    let n = front(put.length, &text);
+    print(whole, &text[..n])
 }
 
 fn say_objects(whole: bool, count: usize) -> bool
@@ -107,9 +87,8 @@ fn say_objects(whole: bool, count: usize) -> bool
 {
     let mut text = [0u8; rowtext::LINE_MOST];
     let put = rowtext::put_objects(count as u64, &mut text);
-    let n = of_bytes(put.length, &text);
-    let sent = moving::hand_on(whole, &text[..n]);
-    sent.whole
+    let n = front(put.length, &text);
+    print(whole, &text[..n])
 }
 
 fn say_count(whole: bool, count: usize) -> bool
@@ -117,9 +96,8 @@ fn say_count(whole: bool, count: usize) -> bool
 {
     let mut text = [0u8; rowtext::LINE_MOST];
     let put = rowtext::put_count(count as u64, &mut text);
-    let n = of_bytes(put.length, &text);
-    let sent = moving::hand_on(whole, &text[..n]);
-    sent.whole
+    let n = front(put.length, &text);
+    print(whole, &text[..n])
 }
 
 // Prints the rows of object i with all later ones, and answers how many.
@@ -132,10 +110,10 @@ fn say_rows(whole: bool, list: &[i64], i: usize) -> Said
     let length = of_numbers(listed.length, &rows);
     let mut text = [0u8; TEXT];
     let put = rowtext::put_rows(&rows[..length], &mut text);
-    let n = of_bytes(put.length, &text);
-    let sent = moving::hand_on(whole, &text[..n]);
+    let n = front(put.length, &text);
+    let went = print(whole, &text[..n]);
     Said {
-        whole: sent.whole,
+        whole: went,
         rows: of_most(listed.rows),
     }
 }
@@ -176,21 +154,21 @@ fn say_drawing(taken: bool, bytes: &[u8], got: usize) -> u8
     let refusal = read.refusal;
     let headed = say_head(taken);
     if !headed {
-        return status(headed, refusal);
+        return status_of(headed, refusal);
     }
     if refusal != 0 {
-        return status(say_refused(headed, refusal), refusal);
+        return status_of(say_refused(headed, refusal), refusal);
     }
     let length = of_numbers(read.length, &list);
-    status(say_listing(headed, &list[..length], read.count), refusal)
+    status_of(say_listing(headed, &list[..length], read.count), refusal)
 }
 
 fn main() {
     let mut bytes = [0u8; store::LONGEST + 1];
-    let taken = moving::read_bytes(&mut bytes);
+    let taken = stream::input::read_bytes(b"list: standard input", &mut bytes);
     if !taken.whole {
-        moving::tell(UNREAD);
+        stream::status::tell(HEAD, UNREAD);
         return;
     }
-    moving::tell(say_drawing(taken.whole, &bytes, taken.length));
+    stream::status::tell(HEAD, say_drawing(taken.whole, &bytes, taken.length));
 }

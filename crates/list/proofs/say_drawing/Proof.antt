@@ -8,7 +8,7 @@ use mir.Val.{toZ, ofZ}
 use mir.ValLaws.{toZ-ofZ}
 use Rattle.store.specs.declared.Read.{Read}
 use Rattle.store.specs.Stored.{readDrawing}
-use Rattle.list.specs.MovingLaws.{kept}
+use Rattle.stream.specs.StreamLaws.{kept}
 use Rattle.list.specs.ReadingLaws.{refusal-is, status-is}
 use Rattle.list.proofs.say_drawing.Statement.{statement}
 use Rattle.list.proofs.say_drawing.Tie as tie
@@ -30,19 +30,19 @@ say-head-requires : tie.Need-say-head-requires
 say-head-requires c κs = c .before .before .before .before .before .before .pre .0
 
 returns : tie.Need-returns
-returns c = status-is (c .before .before .say-head .result) _ _ (c .status .result) (seen (c .before .before .before)) (c .status .ensures)
+returns c = status-is (c .before .before .say-head .result) _ _ (c .status-of .result) (seen (c .before .before .before)) (c .status-of .ensures .0)
 
 say-refused-requires : tie.Need-say-refused-requires
 say-refused-requires c κs = kept _ (c .before .if1 .left)
 
 returns-2 : tie.Need-returns-2
-returns-2 c = status-is (c .before .say-refused .result) _ _ (c .status2 .result) (seen (c .before .before .before .before .before)) (c .status2 .ensures)
+returns-2 c = status-is (c .before .say-refused .result) _ _ (c .status-of2 .result) (seen (c .before .before .before .before .before)) (c .status-of2 .ensures .0)
 
 say-listing-requires : tie.Need-say-listing-requires
 say-listing-requires c κs = kept _ (c .before .before .before .before .if1 .left)
 
 returns-3 : tie.Need-returns-3
-returns-3 c = status-is (c .before .say-listing .result) _ _ (c .status3 .result) (seen (c .before .before .before .before .before .before .before .before)) (c .status3 .ensures)
+returns-3 c = status-is (c .before .say-listing .result) _ _ (c .status-of3 .result) (seen (c .before .before .before .before .before .before .before .before)) (c .status-of3 .ensures .0)
 
 pub say-drawing-spec : {M : Type 1} → statement M
 say-drawing-spec =

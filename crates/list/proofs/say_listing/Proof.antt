@@ -5,7 +5,7 @@ use mathlib.Core.Path.{refl}
 use Prim.Native.Nat.{_≤_, _<_, _*_, _-_}
 use native.Mathlib.Omega.{arith}
 use Rattle.sheet.specs.Limits.{most}
-use Rattle.list.specs.MovingLaws.{kept}
+use Rattle.stream.specs.StreamLaws.{kept}
 use Rattle.list.proofs.say_listing.Statement.{statement}
 use Rattle.list.proofs.say_listing.Tie as tie
 

@@ -3,9 +3,9 @@ use native.Mathlib.Omega.{arith}
 use mir.Syntax.{w64}
 use mir.Val.{toZ, ofZ}
 use mir.ValLaws.{toZ-ofZ}
-use Rattle.list.specs.MovingLaws.{More, more, none}
-use Rattle.list.proofs.moving.after.Statement.{statement}
-use Rattle.list.proofs.moving.after.Tie as tie
+use Rattle.stream.specs.StreamLaws.{More, more, none}
+use Rattle.stream.proofs.calls.after.Statement.{statement}
+use Rattle.stream.proofs.calls.after.Tie as tie
 
 went : (c : tie.Then1) → More (c .before .args .done) (c .before .args .all) (c .before .args .answer) (toZ w64 (ofZ w64 (c .before .args .answer)))
 went c =

@@ -47,10 +47,10 @@ use Rattle.libc.proofs.nanosleep as nanosleep
 use Rattle.libc.proofs.nanosleep.Symbol as nanosleep-def
 use Rattle.libc.proofs.nanosleep.Symbol.{name as #libc·nanosleep}
 use Rattle.libc.proofs.nanosleep.Met as nanosleep-thm
-use Rattle.list.proofs.moving.wait.Key.{name as #list·moving·wait}
-use Rattle.list.proofs.moving.wait as wait
-use Rattle.list.proofs.moving.wait.Statement as stated
-use Rattle.list.proofs.moving.wait.Code as code
+use Rattle.stream.proofs.calls.wait.Key.{name as #stream·calls·wait}
+use Rattle.stream.proofs.calls.wait as wait
+use Rattle.stream.proofs.calls.wait.Statement as stated
+use Rattle.stream.proofs.calls.wait.Code as code
 
 abbrev stayed : Stays (wait.ended .signature .params) (wait.ended .kept)
 stayed = tt
@@ -191,6 +191,6 @@ pub wait-spec : {M : Type 1} → stated.statement M
 unfolding code.routine tablesOf
 wait-spec 𝓤 H 𝓜 𝓖 𝓡 =
     entered 𝓤 H (tripleOf 𝓤 H (𝓖 .A) wait.signature (wait.spec 𝓤 H (𝓖 .A) (𝓜 .mem) (𝓡 .run)))
-    (tables 𝓤 H 𝓜 𝓡 code.env .C) (tables 𝓤 H 𝓜 𝓡 code.env .Λ) #list·moving·wait code.function (code.unfolded 𝓤 H 𝓜 𝓡)
+    (tables 𝓤 H 𝓜 𝓡 code.env .C) (tables 𝓤 H 𝓜 𝓡 code.env .Λ) #stream·calls·wait code.function (code.unfolded 𝓤 H 𝓜 𝓡)
     (wait-meets 𝓤 H (𝓖 .A) (givenOf 𝓤 H 𝓜 𝓖) (𝓜 .mem) (𝓡 .run) (tablesOf 𝓤 H 𝓜 (tables 𝓤 H 𝓜 𝓡 code.env))
     (cited 𝓤 H (Nanosleep 𝓤 H (𝓖 .A) (𝓜 .mem) (𝓡 .run)) 𝓜 𝓡 code.env #libc·nanosleep nanosleep-def.routine code.calls-libc·nanosleep (nanosleep-thm.met 𝓤 H 𝓜 𝓖 𝓡)))

@@ -2,9 +2,9 @@
 use borrow.Author.Needs.{needs}
 use mir.Syntax.{w64}
 use mir.ValLaws.{toZ-ofZ}
-use Rattle.list.specs.MovingLaws.{rest-moved}
-use Rattle.list.proofs.moving.read_rest.Statement.{statement}
-use Rattle.list.proofs.moving.read_rest.Tie as tie
+use Rattle.stream.specs.StreamLaws.{rest-moved}
+use Rattle.stream.proofs.input.read_rest.Statement.{statement}
+use Rattle.stream.proofs.input.read_rest.Tie as tie
 
 returns : tie.Need-returns
 returns c =
