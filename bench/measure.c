@@ -2,15 +2,17 @@
 #include "sheets.h"
 #include <string.h>
 
-/* each answers its refusal, 0 for none */
+/* each answers its refusal, 0 for none; a move the length of what it put, too */
 int64_t silvanelga_trial_list(const int64_t *list, size_t length, int64_t *rows, size_t room);
 int64_t silvanelga_trial_read(const uint8_t *bytes, size_t length, int64_t *list, size_t room);
-int64_t silvanelga_trial_write(const int64_t *list, size_t length, uint8_t *bytes, size_t room);
+int64_t silvanelga_trial_write(int64_t form, const int64_t *list, size_t length, uint8_t *bytes, size_t room);
+struct moved { int64_t refusal; size_t length; };
+struct moved silvanelga_trial_move(const uint8_t *bytes, size_t length, int64_t form, uint8_t *out, size_t room);
 
 enum { CGAL_TURNS = 7 };
 
 static int64_t list[NUMBERS], back[NUMBERS], rows[ROW * PAIRS], other[ROW * PAIRS];
-static uint8_t bytes[BYTES], again[BYTES];
+static uint8_t bytes[BYTES], again[BYTES], out[BYTES];
 
 #ifdef WITH_CGAL
 int64_t cgal_list(const int64_t *list, size_t length);
@@ -33,6 +35,38 @@ static void beside_cgal(int64_t count, double ours) { (void)count, (void)ours; }
 #define CGAL_COLUMNS ""
 #endif
 
+/* a row of the drawings' table: of so many bytes, by the time a byte */
+static void say(const char *what, size_t size, double ours, double plain)
+{
+    printf("%-12s %9zu %12.2f %12.2f %7.2f\n", what, size, ours / (double)size, plain / (double)size, ours / plain);
+}
+
+/* the list written in a form, and read again */
+static void race_drawing(const char *write, const char *read, int64_t form)
+{
+    double ours = 0, plain = 0;
+    int64_t size = plain_write(form, list, NUMBERS, again, BYTES);
+    if (size < 0 || silvanelga_trial_write(form, list, NUMBERS, bytes, BYTES) != 0 || memcmp(bytes, again, (size_t)size) != 0) fail("the two drawings differ");
+    if (silvanelga_trial_read(bytes, (size_t)size, back, NUMBERS) != 0 || memcmp(list, back, sizeof list) != 0) fail("the drawing did not come back");
+    if (plain_read(bytes, (size_t)size, back, NUMBERS) != NUMBERS || memcmp(list, back, sizeof list) != 0) fail("plain C reads another drawing");
+    RACE(silvanelga_trial_write(form, list, NUMBERS, bytes, BYTES), plain_write(form, list, NUMBERS, again, BYTES), ours, plain)
+    say(write, (size_t)size, ours, plain);
+    RACE(silvanelga_trial_read(bytes, (size_t)size, back, NUMBERS), plain_read(bytes, (size_t)size, back, NUMBERS), ours, plain)
+    say(read, (size_t)size, ours, plain);
+}
+
+/* the drawing of the list moved to a form; its bytes are those of the form that it has */
+static void race_move(const char *move, int64_t from, int64_t to)
+{
+    double ours = 0, plain = 0;
+    size_t length = (size_t)plain_write(from, list, NUMBERS, bytes, BYTES);
+    int64_t size = plain_move(bytes, length, to, again, BYTES);
+    struct moved moved = silvanelga_trial_move(bytes, length, to, out, BYTES);
+    if (size < 0 || moved.refusal != 0 || moved.length != (size_t)size || memcmp(out, again, (size_t)size) != 0) fail("the two moves differ");
+    RACE(silvanelga_trial_move(bytes, length, to, out, BYTES), plain_move(bytes, length, to, again, BYTES), ours, plain)
+    say(move, length, ours, plain);
+}
+
 int main(void)
 {
     printf("%-12s %9s %12s %12s %7s%s\n", "listing", "rows", "ns a pair", "plain C", "ratio", CGAL_COLUMNS);
@@ -49,15 +83,15 @@ int main(void)
         printf("\n");
     }
 
-    double ours = 0, plain = 0;
+    /* the same objects every time: with tags of 0, as the old form and a move to it need them; of three layers; and with tags of any size */
     make_sheet(list, sides, ONE_LAYER);
-    int64_t size = plain_write(list, NUMBERS, again, BYTES);
-    if (size < 0 || silvanelga_trial_write(list, NUMBERS, bytes, BYTES) != 0 || memcmp(bytes, again, BYTES) != 0) fail("the two drawings differ");
-    if (silvanelga_trial_read(bytes, (size_t)size, back, NUMBERS) != 0 || memcmp(list, back, sizeof list) != 0) fail("the drawing did not come back");
     printf("\n%-12s %9s %12s %12s %7s\n", "drawing", "bytes", "ns a byte", "plain C", "ratio");
-    RACE(silvanelga_trial_write(list, NUMBERS, bytes, BYTES), plain_write(list, NUMBERS, again, BYTES), ours, plain)
-    printf("%-12s %9lld %12.2f %12.2f %7.2f\n", "write", (long long)size, ours / (double)size, plain / (double)size, ours / plain);
-    RACE(silvanelga_trial_read(bytes, (size_t)size, back, NUMBERS), plain_read(bytes, (size_t)size, list, NUMBERS), ours, plain)
-    printf("%-12s %9lld %12.2f %12.2f %7.2f\n", "read", (long long)size, ours / (double)size, plain / (double)size, ours / plain);
+    race_drawing("write old", "read old", OLD);
+    race_move("move to new", OLD, NEW);
+    race_move("move to old", NEW, OLD);
+    set_layers(list, LAYERS);
+    race_drawing("write new", "read new", NEW);
+    set_any_tags(list);
+    race_drawing("write tags", "read tags", NEW);
     return 0;
 }

@@ -147,10 +147,11 @@ int64_t plain_list(const int64_t *list, size_t length, int64_t *rows, size_t roo
     return (int64_t)(at / ROW);
 }
 
-/* ---- stored drawings */
+/* ---- stored drawings; each loop over objects is written once, and compiled for each form */
 
 /* one group of seven bits, and two, hold the numbers below these; the first is also the top bit of a byte, which says that another follows */
 enum { GROUP = 128, TWO_GROUPS = GROUP * GROUP };
+enum { MARK = 1000 }; /* what the new form starts with: no count */
 
 /* one to three groups, the low one first; what is asked first is what most numbers are */
 static int64_t number(const uint8_t *bytes, size_t length, size_t *at, int64_t *n)
@@ -170,13 +171,18 @@ static int64_t number(const uint8_t *bytes, size_t length, size_t *at, int64_t *
     return 0 < third && third < GROUP ? 0 : 8;
 }
 
-/* one object; the bytes have no place for its tag, which is 0 */
-static int64_t read_object(const uint8_t *bytes, size_t length, size_t *at, int64_t o[WIDTH])
+/* one object; the old form has no place for its tag, which is 0, and the new one tells q by how far it is from p */
+static inline int64_t read_object(bool is_new, const uint8_t *bytes, size_t length, size_t *at, int64_t o[WIDTH])
 {
     int64_t no = number(bytes, length, at, &o[0]);
     if (no != 0) return no;
     if (o[0] < 1 || 4 < o[0]) return 1;
     o[TAG] = 0;
+    if (is_new) {
+        no = number(bytes, length, at, &o[TAG]);
+        if (no != 0) return no;
+        if (LAST_TAG < o[TAG]) return 15;
+    }
     if (o[0] == 4) {
         o[2] = o[3] = o[4] = 0;
         no = number(bytes, length, at, &o[1]);
@@ -187,31 +193,50 @@ static int64_t read_object(const uint8_t *bytes, size_t length, size_t *at, int6
         no = number(bytes, length, at, &n);
         if (no != 0) return no;
         o[k] = n % 2 == 0 ? n / 2 : -(n / 2) - 1;
+        if (is_new && 2 < k) o[k] += o[k - 2];
         if (beyond(o[k])) return 2;
     }
     return o[1] == o[3] && o[2] == o[4] ? 3 : 0;
 }
 
-/* the whole drawing is read once to check it, and once more to fill the list */
-int64_t plain_read(const uint8_t *bytes, size_t length, int64_t *list, size_t room)
+/* what stands before the objects: in the new form a mark, and then in either the count */
+typedef struct { bool is_new; int64_t count; } head;
+
+static int64_t read_head(const uint8_t *bytes, size_t length, size_t *at, head *h)
 {
-    size_t at = 0;
-    int64_t count, o[WIDTH], no = number(bytes, length, &at, &count);
-    if (no == 0 && count > MOST) no = 11;
-    size_t start = at;
-    for (int64_t i = 0; no == 0 && i < count; i++) no = read_object(bytes, length, &at, o);
+    int64_t no = number(bytes, length, at, &h->count);
+    h->is_new = no == 0 && h->count == MARK;
+    if (h->is_new) no = number(bytes, length, at, &h->count);
+    return no != 0 ? no : h->count > MOST ? 11 : 0;
+}
+
+/* the whole drawing is read once to check it, and once more to fill the list */
+static inline int64_t read_objects(bool is_new, int64_t count, const uint8_t *bytes, size_t length, size_t start, int64_t *list, size_t room)
+{
+    size_t at = start;
+    int64_t o[WIDTH], no = 0;
+    for (int64_t i = 0; no == 0 && i < count; i++) no = read_object(is_new, bytes, length, &at, o);
     if (no != 0) return -no;
     if (at != length) return -9;
     if (room < (size_t)count * WIDTH) return -10;
     at = start;
-    for (int64_t i = 0; i < count; i++) read_object(bytes, length, &at, list + WIDTH * i);
+    for (int64_t i = 0; i < count; i++) read_object(is_new, bytes, length, &at, list + WIDTH * i);
     return count * WIDTH;
+}
+
+int64_t plain_read(const uint8_t *bytes, size_t length, int64_t *list, size_t room)
+{
+    size_t at = 0;
+    head h;
+    int64_t no = read_head(bytes, length, &at, &h);
+    if (no != 0) return -no;
+    return h.is_new ? read_objects(true, h.count, bytes, length, at, list, room) : read_objects(false, h.count, bytes, length, at, list, room);
 }
 
 static size_t width_of(uint64_t n) { return n < GROUP ? 1 : n < TWO_GROUPS ? 2 : 3; }
 static uint64_t folded(int64_t n) { return n >= 0 ? 2 * (uint64_t)n : 2 * size(n) - 1; }
 
-/* apart, since no number of a drawing that is written has three groups */
+/* apart, since of all that is written a tag alone may have three groups */
 static size_t put_three(uint8_t *bytes, uint64_t n)
 {
     bytes[0] = (uint8_t)(GROUP + n % GROUP);
@@ -232,27 +257,86 @@ static size_t put(uint8_t *bytes, uint64_t n)
     return 2;
 }
 
-int64_t plain_write(const int64_t *list, size_t length, uint8_t *bytes, size_t room)
+/* the number that px, py, qx or qy, the k-th of an object, is stored as */
+static inline uint64_t stored(bool is_new, const int64_t *o, int k) { return folded(is_new && 2 < k ? o[k] - o[k - 2] : o[k]); }
+
+static inline size_t size_of(bool is_new, const int64_t *o)
+{
+    size_t need = 1 + (is_new ? width_of((uint64_t)o[TAG]) : 0);
+    if (o[0] == 4) return need + 1;
+    for (int k = 1; k < TAG; k++) need += width_of(stored(is_new, o, k));
+    return need;
+}
+
+static inline size_t put_object(bool is_new, const int64_t *o, uint8_t *bytes)
+{
+    size_t at = put(bytes, (uint64_t)o[0]);
+    if (is_new) at += put(bytes + at, (uint64_t)o[TAG]);
+    if (o[0] == 4) return at + put(bytes + at, (uint64_t)o[1]);
+    for (int k = 1; k < TAG; k++) at += put(bytes + at, stored(is_new, o, k));
+    return at;
+}
+
+static size_t size_of_head(bool is_new, size_t count) { return (is_new ? width_of(MARK) : 0) + width_of(count); }
+
+static size_t put_head(bool is_new, size_t count, uint8_t *bytes)
+{
+    size_t at = is_new ? put(bytes, MARK) : 0;
+    return at + put(bytes + at, count);
+}
+
+static inline int64_t write_objects(bool is_new, const int64_t *list, size_t count, uint8_t *bytes, size_t room)
+{
+    int64_t tags = 0;
+    size_t need = size_of_head(is_new, count), at;
+    for (size_t i = 0; i < count; i++) {
+        tags |= list[WIDTH * i + TAG];
+        need += size_of(is_new, list + WIDTH * i);
+    }
+    if (!is_new && tags != 0) return -16;
+    if (room < need) return -10;
+    at = put_head(is_new, count, bytes);
+    for (size_t i = 0; i < count; i++) at += put_object(is_new, list + WIDTH * i, bytes + at);
+    return (int64_t)at;
+}
+
+int64_t plain_write(int64_t form, const int64_t *list, size_t length, uint8_t *bytes, size_t room)
 {
     int64_t no = list_refusal(list, length);
     if (no != 0) return -no;
-    size_t count = length / WIDTH, need = width_of(count), at;
-    int64_t tags = 0;
-    for (size_t i = 0; i < count; i++) {
-        const int64_t *o = list + WIDTH * i;
+    size_t count = length / WIDTH;
+    return form == NEW ? write_objects(true, list, count, bytes, room) : write_objects(false, list, count, bytes, room);
+}
+
+/* each object is read once to check and to count, and once more to be put */
+static inline int64_t move_objects(bool was_new, bool is_new, int64_t count, const uint8_t *bytes, size_t length, size_t start, uint8_t *out, size_t room)
+{
+    size_t at = start, need = size_of_head(is_new, (size_t)count);
+    int64_t o[WIDTH], tags = 0;
+    for (int64_t i = 0; i < count; i++) {
+        int64_t no = read_object(was_new, bytes, length, &at, o);
+        if (no != 0) return -no;
         tags |= o[TAG];
-        need += 1;
-        if (o[0] == 4) need += 1;
-        else for (int k = 1; k < TAG; k++) need += width_of(folded(o[k]));
+        need += size_of(is_new, o);
     }
-    if (tags != 0) return -16;
+    if (at != length) return -9;
+    if (!is_new && tags != 0) return -16;
     if (room < need) return -10;
-    at = put(bytes, count);
-    for (size_t i = 0; i < count; i++) {
-        const int64_t *o = list + WIDTH * i;
-        at += put(bytes + at, (uint64_t)o[0]);
-        if (o[0] == 4) at += put(bytes + at, (uint64_t)o[1]);
-        else for (int k = 1; k < TAG; k++) at += put(bytes + at, folded(o[k]));
+    size_t put_at = put_head(is_new, (size_t)count, out);
+    at = start;
+    for (int64_t i = 0; i < count; i++) {
+        read_object(was_new, bytes, length, &at, o);
+        put_at += put_object(is_new, o, out + put_at);
     }
-    return (int64_t)at;
+    return (int64_t)put_at;
+}
+
+int64_t plain_move(const uint8_t *bytes, size_t length, int64_t form, uint8_t *out, size_t room)
+{
+    size_t at = 0;
+    head h;
+    int64_t no = read_head(bytes, length, &at, &h);
+    if (no != 0) return -no;
+    if (form == NEW) return h.is_new ? move_objects(true, true, h.count, bytes, length, at, out, room) : move_objects(false, true, h.count, bytes, length, at, out, room);
+    return h.is_new ? move_objects(true, false, h.count, bytes, length, at, out, room) : move_objects(false, false, h.count, bytes, length, at, out, room);
 }

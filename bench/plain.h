@@ -7,12 +7,14 @@
 
 enum { WIDTH = 6, ROW = 10, MOST = 512, REACH = 2000, LAST_TAG = 2000000 };
 enum { TAG = WIDTH - 1 }; /* where it stands among the numbers of an object; p and q stand between the kind and it */
+enum { OLD = 1, NEW = 2 }; /* the forms of a stored drawing */
 
 /* the rows of all sharing pairs; their count, or minus the refusal */
 int64_t plain_list(const int64_t *list, size_t length, int64_t *rows, size_t room);
-/* a stored drawing read, and written; the count of numbers or bytes, or minus the refusal */
+/* a stored drawing of either form read, written in a form, and moved to a form; the count of numbers or bytes, or minus the refusal */
 int64_t plain_read(const uint8_t *bytes, size_t length, int64_t *list, size_t room);
-int64_t plain_write(const int64_t *list, size_t length, uint8_t *bytes, size_t room);
+int64_t plain_write(int64_t form, const int64_t *list, size_t length, uint8_t *bytes, size_t room);
+int64_t plain_move(const uint8_t *bytes, size_t length, int64_t form, uint8_t *out, size_t room);
 
 typedef struct { int64_t mx, nx, my, ny, w; } point;
 typedef struct { int64_t refusal, number; point at; } answer;

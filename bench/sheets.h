@@ -4,7 +4,7 @@
 #include "plain.h"
 #include "race.h"
 
-enum { NUMBERS = WIDTH * MOST, PAIRS = MOST * (MOST - 1) / 2, BYTES = 2 + 9 * MOST };
+enum { NUMBERS = WIDTH * MOST, PAIRS = MOST * (MOST - 1) / 2, BYTES = 4 + 12 * MOST };
 
 static void pair(int64_t *o, int64_t kind, int64_t reach)
 {
@@ -35,11 +35,23 @@ static const struct { const char *name; void (*make)(int64_t *, int); } sheets[]
     {"uniform", uniform}, {"lines only", lines}, {"grid", grid}, {"chains", chains}, {"with sides", sides}};
 enum { SHEETS = sizeof sheets / sizeof *sheets };
 
-/* a sheet whose objects are of so many layers in turn: of one layer the tags are all 0, and it can be stored */
+/* a sheet whose objects are of so many layers in turn: of one layer the tags are all 0, and it can be stored in the old form */
 enum { ONE_LAYER = 1, LAYERS = 3 };
+static void set_layers(int64_t *list, int layers)
+{
+    for (int i = 0; i < MOST; i++) list[WIDTH * i + TAG] = i % layers;
+}
+
 static void make_sheet(int64_t *list, void (*make)(int64_t *, int), int layers)
 {
-    for (int i = 0; i < MOST; i++) make(list + WIDTH * i, i), list[WIDTH * i + TAG] = i % layers;
+    for (int i = 0; i < MOST; i++) make(list + WIDTH * i, i);
+    set_layers(list, layers);
+}
+
+/* tags from all over their range, which mostly take three bytes */
+static inline void set_any_tags(int64_t *list)
+{
+    for (int i = 0; i < MOST; i++) list[WIDTH * i + TAG] = pick(0, LAST_TAG);
 }
 
 #endif

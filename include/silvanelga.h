@@ -1,9 +1,10 @@
 /* Silvanelga for a viewer in C: two calls on a stored drawing.
 
-   A drawing is passed as its stored bytes and their number. The calls read the bytes and nothing else. They allocate nothing, keep nothing
-   and change nothing: no memory of the caller, no global, not errno. Any thread may call at any time, also with the same bytes, as long as
-   nobody writes them meanwhile. Any bytes, any index and any x and y are taken, and what is wrong with them is the answer. A null pointer is
-   fine where the number of bytes is 0. A call uses less than a kilobyte of stack.
+   A drawing is passed as its stored bytes and their number. It has one of two forms, which its first number tells: the new form starts with
+   1000, the old one with the count of objects. Both calls take either. The calls read the bytes and nothing else. They allocate nothing, keep
+   nothing and change nothing: no memory of the caller, no global, not errno. Any thread may call at any time, also with the same bytes, as
+   long as nobody writes them meanwhile. Any bytes, any index and any x and y are taken, and what is wrong with them is the answer. A null
+   pointer is fine where the number of bytes is 0. A call uses less than a kilobyte of stack.
 
    Link with the library that `rt staticlib viewer` writes, target/staticlib/libviewer.a; it needs no other. */
 #ifndef SILVANELGA_H
@@ -19,7 +20,7 @@ extern "C" {
 enum {
     SILVANELGA_REACH = 2000,   /* coordinates are whole millimetres from -2000 to 2000 */
     SILVANELGA_MOST = 512,     /* objects of a drawing at most */
-    SILVANELGA_LONGEST = 4610, /* bytes of a drawing at most; of a longer input, this many and one more meet the same refusal */
+    SILVANELGA_LONGEST = 6148, /* bytes of a drawing of either form at most; of a longer input, this many and one more meet the same refusal */
     SILVANELGA_REFUSED = 100   /* silvanelga_side answers this plus the number of a refusal */
 };
 
@@ -39,12 +40,12 @@ enum silvanelga_refusal {
     /* 12 was a refusal of earlier builds, and is not used again */
     SILVANELGA_NO_OBJECT = 13,     /* * object index below 0 or not below the count (silvanelga_side alone) */
     SILVANELGA_LIST_LENGTH = 14,   /*   list length not a multiple of six, or of ten for rows */
-    SILVANELGA_NO_TAG = 15,        /*   a tag below 0 or above 2,000,000 */
-    SILVANELGA_TAG_LOST = 16,      /*   a tag other than 0 written as a stored drawing, which has no place for it */
+    SILVANELGA_NO_TAG = 15,        /* * a tag below 0 or above 2,000,000; of stored bytes, of the new form alone */
+    SILVANELGA_TAG_LOST = 16,      /*   a tag other than 0 written in the old form, or moved to it, which has no place for it */
     SILVANELGA_NOT_GIVEN = 21      /*   of the first three points of a circle, or a standard fourth, one that is no given point */
 };
 
-/* Are these `length` bytes a stored drawing? 0, or the refusal that reading them meets first. */
+/* Are these `length` bytes a stored drawing, of either form? 0, or the refusal that reading them meets first. */
 int64_t silvanelga_check(const uint8_t *bytes, size_t length);
 
 /* On which side of object `index` is the point x, y? Objects are numbered from 0 in the drawing's order; x and y are whole millimetres.

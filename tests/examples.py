@@ -1,8 +1,9 @@
 """The examples that README.md names: each there whole, as hex text, as bytes and with its listing, and the listing is right."""
 import os, re
 
-# Name, and what its listing begins with: the sheet of document 01, a door portal, a sheet with every kind, a damaged file.
-EXAMPLES = {'worked': 'objects', 'portal': 'objects', 'kinds': 'objects', 'damaged': 'refused'}
+# Name, and what its listing begins with: the sheet of document 01, a door portal, a sheet with every kind, one in the new form whose layers have
+# tags, a damaged file.
+EXAMPLES = {'worked': 'objects', 'portal': 'objects', 'kinds': 'objects', 'layers': 'objects', 'damaged': 'refused'}
 FORMS = ('hex', 'drawing', 'listing')
 HOW_MANY = ('no', 'one', 'two', 'three', 'four', 'five', 'six', 'seven', 'eight')[len(EXAMPLES)]
 

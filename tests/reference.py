@@ -7,6 +7,8 @@ from math import gcd
 
 REACH, MOST, LAST_TAG = 2000, 512, 2_000_000
 WIDTH, ROW = 6, 10                              # numbers of an object in a list, and of a row of a listing
+OLD, NEW = 1, 2                                 # the forms of a stored drawing
+MARK = 1000                                     # what the new form starts with: the count of no drawing
 GROUP, GROUPS = 2**7, 3                         # what seven bits are below, which is also a byte's top bit; and the groups of a number at most
 WIDEST, FAR = 32_000_000, 64_000_000_000        # w and n of a standard point
 NARROW, NEAR = 4_000, 8_000_000                 # w and n of a frame point
@@ -53,11 +55,16 @@ def list_refusals(numbers):
         yield from object_refusals(*one)
 
 
-def write_refusals(numbers):
-    """A list that is to be stored: its own, then 16 where there is a tag other than 0."""
-    yield from list_refusals(numbers)
-    if any(tag != 0 for *_, tag in objects_in(numbers)):
+def form_refusals(objects, form):
+    """16 where there is a tag other than 0, for which the old form alone has no place."""
+    if form == OLD and any(tag != 0 for *_, tag in objects):
         yield 16
+
+
+def write_refusals(numbers, form=OLD):
+    """A list that is to be stored: its own, then 16."""
+    yield from list_refusals(numbers)
+    yield from form_refusals(objects_in(numbers), form)
 
 
 def point_refusals(mx, nx, my, ny, w):
@@ -105,35 +112,72 @@ def stored_number(data, at):
     raise Refused(8)                            # one group more than a number has
 
 
-def read(data):
-    """The objects of a stored drawing, each a tuple (kind, px, py, qx, qy, tag); it has no place for a tag, which is 0."""
-    count, at = stored_number(data, 0)
-    if count > MOST:
+def unfolded(number):
+    """The coordinate, or the difference, that is stored so."""
+    return number // 2 if number % 2 == 0 else -(number + 1) // 2
+
+
+def head(data):
+    """The form, the count of objects, and where they begin. The mark is taken once: behind it stands a count."""
+    form = OLD
+    number, at = stored_number(data, 0)
+    if number == MARK:
+        form = NEW
+        number, at = stored_number(data, at)
+    if number > MOST:
         raise Refused(11)
+    return form, number, at
+
+
+def read_place(data, at, start):
+    """x and y, told by how far they are from a start, and where the next number begins."""
+    place = []
+    for coordinate in start:
+        number, at = stored_number(data, at)
+        place.append(coordinate + unfolded(number))
+        if abs(place[-1]) > REACH:
+            raise Refused(2)
+    return tuple(place), at
+
+
+def read_form(data):
+    """The form of a stored drawing, and its objects, each a tuple (kind, px, py, qx, qy, tag). The old form has no place for a tag, which is
+    0. In the new form q is told by its differences from p."""
+    form, count, at = head(data)
     objects = []
     for _ in range(count):
         kind, at = stored_number(data, at)
         if not 1 <= kind <= 4:
             raise Refused(1)
+        tag = 0
+        if form == NEW:
+            tag, at = stored_number(data, at)
+            if tag > LAST_TAG:
+                raise Refused(15)
         if kind == 4:
             side, at = stored_number(data, at)
             if not 1 <= side <= 4:
                 raise Refused(4)
-            objects.append((4, side, 0, 0, 0, 0))
+            objects.append((4, side, 0, 0, 0, tag))
             continue
-        numbers = []
-        for _ in range(4):
-            folded, at = stored_number(data, at)
-            number = folded // 2 if folded % 2 == 0 else -(folded + 1) // 2
-            if abs(number) > REACH:
-                raise Refused(2)
-            numbers.append(number)
-        if numbers[:2] == numbers[2:]:
+        p, at = read_place(data, at, (0, 0))
+        q, at = read_place(data, at, p if form == NEW else (0, 0))
+        if p == q:
             raise Refused(3)
-        objects.append((kind, *numbers, 0))
+        objects.append((kind, *p, *q, tag))
     if at != len(data):
         raise Refused(9)
-    return objects
+    return form, objects
+
+
+def read(data):
+    """The objects of a stored drawing of either form."""
+    return read_form(data)[1]
+
+
+def form_of(data):
+    """The form of a stored drawing."""
+    return read_form(data)[0]
 
 
 def write_number(number):
@@ -146,25 +190,41 @@ def write_number(number):
 
 
 def folded(coordinate):
-    """The number that it is stored as."""
+    """The number that a coordinate, or a difference, is stored as."""
     return 2 * coordinate if coordinate >= 0 else -2 * coordinate - 1
 
 
-def places(objects):
+def places(objects, form):
     """The numbers of a stored drawing in their order, each with the name of its place."""
+    if form == NEW:
+        yield 'mark', MARK
     yield 'count', len(objects)
-    for kind, *numbers, tag in objects:
-        assert tag == 0, 'a stored drawing has no place for a tag'
+    for kind, px, py, qx, qy, tag in objects:
         yield 'kind', kind
+        if form == NEW:
+            yield 'tag', tag
         if kind == 4:
-            yield 'side', numbers[0]
+            yield 'side', px
+            continue
+        yield from (('px', folded(px)), ('py', folded(py)))
+        if form == NEW:
+            yield from (('qx - px', folded(qx - px)), ('qy - py', folded(qy - py)))
         else:
-            yield from zip(('px', 'py', 'qx', 'qy'), map(folded, numbers))
+            yield from (('qx', folded(qx)), ('qy', folded(qy)))
 
 
-def write(objects):
-    """The bytes of objects that are not refused: their tags are all 0."""
-    return b''.join(write_number(number) for _, number in places(objects))
+def write(objects, form=OLD):
+    """The bytes of objects that are not refused."""
+    assert refusal(form_refusals(objects, form)) == 0, 'the old form has no place for a tag'
+    return b''.join(write_number(number) for _, number in places(objects, form))
+
+
+def move(data, form):
+    """The same drawing in a form, whichever it has: what reading it meets, then 16."""
+    objects = read(data)
+    for number in form_refusals(objects, form):
+        raise Refused(number)
+    return write(objects, form)
 
 
 # ---- an object cut at the square from -R to R: the two ends of a closed segment, in its direction

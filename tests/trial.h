@@ -1,15 +1,25 @@
-/* The calls of the crate `trial`, and how many numbers their lists have: of an object, and of a row of a listing. */
+/* The calls of the crate `trial`, how many numbers their lists have, of an object and of a row of a listing, and the forms of a stored drawing. */
 #ifndef TRIAL_H
 #define TRIAL_H
 #include <stddef.h>
 #include <stdint.h>
 
 enum { WIDTH = 6, ROW = 10 };
+enum { OLD = 1, NEW = 2 }; /* any other number that is given as a form is taken as the old one */
 
-/* each answers its refusal, 0 for none */
+/* each answers its refusal, 0 for none; a drawing is read in either form, and written in the one that is given */
 int64_t silvanelga_trial_list(const int64_t *list, size_t length, int64_t *rows, size_t room);
 int64_t silvanelga_trial_read(const uint8_t *bytes, size_t length, int64_t *list, size_t room);
-int64_t silvanelga_trial_write(const int64_t *list, size_t length, uint8_t *bytes, size_t room);
+int64_t silvanelga_trial_write(int64_t form, const int64_t *list, size_t length, uint8_t *bytes, size_t room);
+
+/* the form of a stored drawing, or 100 plus the refusal that reading it meets */
+int64_t silvanelga_trial_form(const uint8_t *bytes, size_t length);
+
+/* the refusal, and the length of the drawing that was put, or with refusal 10 the length that is needed */
+struct moved { int64_t refusal; size_t length; };
+
+/* puts a stored drawing, of either form, into other bytes in the form that is given */
+struct moved silvanelga_trial_move(const uint8_t *bytes, size_t length, int64_t form, uint8_t *out, size_t room);
 
 /* the refusal, and the number that the bytes begin with and how many of them it takes */
 struct stored_number { int64_t refusal; uint64_t value, size; };

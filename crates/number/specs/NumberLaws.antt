@@ -1,21 +1,21 @@
 -- What reading a number is, and what its answer says. To cite:
 --   Numbered, number-is   a number with some bytes in front of the rest, or refusal 7 or 8
---   number-tells          what the answer of `read_number` says of the reading
+--   number-tells, number-at   what the answer of `read_number` says of the reading, of bytes and of the rest of them
 -- Assumes nothing.
 use mathlib.Core.Path.{_≡_, refl, sym, ap, subst, _∙_}
 use mathlib.Core.Bool.{Bool, true, false}
 use mathlib.Core.List.{List, [], _∷_, _++_}
-use Prim.Native.Nat.{ℕ, _+_, _-_}
+use Prim.Native.Nat.{ℕ, _+_, _-_, _≤_}
 use native.Mathlib.Omega.{arith}
 use lib.IntN.{pos}
-use lib.ListN.{length, drop, length-append}
+use lib.ListN.{length, take, drop, length-append}
 use lib.Seq.{drop-at}
 use Rattle.number.specs.declared.Number.{Number}
 use Rattle.number.specs.Number.{mostGroups, valueOf, needless, Reading, got, no, checked, numberFrom, readNumber, numberOf}
 use Rattle.number.specs.ReadGroupsLaws.{Behind, read-behind}
 use Rattle.number.specs.ReadGroupsLaws as groups
 use Rattle.number.specs.ReadAs.{ReadAs}
-use Rattle.number.specs.ReadAsLaws.{reads-taken, reads-refused}
+use Rattle.number.specs.ReadAsLaws.{reads-taken, reads-refused, reads-at, reads-rest}
 
 pub data Numbered (bs : List ℕ) : Reading ℕ → Type 0 where
   number : (n : ℕ) (front rest : List ℕ) → bs ≡ front ++ rest → Numbered bs (got n rest)
@@ -45,3 +45,10 @@ number-tells bs e = subst (λ (n : Number). ReadAs bs (readNumber bs) (n .refusa
         let size : length bs - length rest ≡ length front = omega arith in
         let there : drop (length bs - length rest) bs ≡ rest = (λ i. drop (size i) (f i)) ∙ drop-at front rest (length front) refl in
         reads-taken (ap (got n) (sym there)) (omega arith)
+
+-- of the rest of a slice, as a place of the slice
+pub number-at :
+    (at : ℕ) (bs : List ℕ) {r : Number} → at ≤ length bs
+    → r ≡ numberOf (take (length bs - at) (drop at bs)) (readNumber (take (length bs - at) (drop at bs)))
+    → ReadAs bs (readNumber (drop at bs)) (r .refusal) (r .value) (at + r .size)
+number-at at bs h e = reads-at at bs h (reads-rest readNumber at bs (number-tells (take (length bs - at) (drop at bs)) e))

@@ -2,6 +2,7 @@
 --   reads-taken, reads-refused   an answer from the reading
 --   on-refused, on-taken         what is read next, by the code's test of the refusal of what was read first
 --   reads-on                     what is read next, as an answer of the whole
+--   reads-then, reads-at         the same where both tell places of one slice; an answer of a slice's rest, as a place of the slice
 --   reads-as, reads-no, reads-made   the same answer in other words; of something made of what was read
 --   rest-is, reads-rest          the rest of a slice from its middle, and an answer of it
 -- Assumes nothing.
@@ -53,6 +54,19 @@ module _ {A B : Type 0} {bs : List ℕ} {r : Reading A} {n : ℤ} {v : A} {size 
         within = omega (arith, t .within, u .within, length-drop size bs);
         refused = λ d. on-taken e ∙ u .refused d;
       }
+
+  pub reads-then : {m : ℤ} {w : B} {next′ : ℕ} → ofZ w64 n ≡ 0 → ReadAs bs (f v (drop size bs)) m w next′ → ReadAs bs (next r f) m w next′
+  reads-then e u = record { taken = λ z. on-taken e ∙ u .taken z; within = u .within; refused = λ d. on-taken e ∙ u .refused d }
+
+pub reads-at :
+    {A : Type 0} {r : Reading A} {n : ℤ} {v : A} {size : ℕ} (at : ℕ) (bs : List ℕ) → at ≤ length bs → ReadAs (drop at bs) r n v size
+    → ReadAs bs r n v (at + size)
+reads-at {A} {r} {n} {v} {size} at bs h t =
+    record {
+      taken = λ z. t .taken z ∙ ap (got v) (drop-drop size at bs);
+      within = omega (arith, h, t .within, length-drop at bs);
+      refused = t .refused;
+    }
 
 -- the same answer, as the code has its numbers
 pub reads-as :

@@ -1,6 +1,7 @@
 -- How far reading reaches into its bytes. To cite:
 --   Same        of bytes, and of them with others behind, the same is read, by at most so many
 --   same-next, same-checked, same-cond, same-weak   what is read next; a check; a choice; by more bytes
+--   SameNumber, same-number   a number, where there are bytes enough
 --   same-take   a number is read, and then what refuses it where it has more than k groups after the first
 -- The laws ask for more bytes than are taken, since a number that is refused may be longer than one that is taken. Assumes nothing.
 use mathlib.Core.Path.{_≡_, refl, ap}
@@ -8,8 +9,8 @@ use mathlib.Core.Bool.{Bool, true, false, cond}
 use mathlib.Core.List.{List, _∷_, _++_}
 use Prim.Native.Nat.{ℕ, suc, _+_, _<_, _≤_}
 use native.Mathlib.Omega.{arith}
-use borrow.Author.Tests.{leb-true, leb-false}
-use lib.Dec.{leb}
+use borrow.Author.Tests.{leb-true, leb-false, ltb-true, ltb-false}
+use lib.Dec.{leb, ltb}
 use lib.IntN.{ℤ, pos}
 use lib.ListN.{length, length-append}
 use Rattle.number.specs.Number.{mostGroups, limit, valueOf, needless, Reading, got, no, next, checked, numberFrom, readNumber}
@@ -48,16 +49,16 @@ same-weak h (on a rest l) = on a rest (omega arith)
 
 -- ---- numbers
 
--- a number of more than k groups after the first is one that k do not hold
-pub same-take :
-    {B : Type 0} (k j : ℕ) (z : ℤ) (bs t : List ℕ) (f : ℕ → List ℕ → Reading B) → suc k + j < length bs → mostGroups ≤ length bs
-    → ((n : ℕ) → limit (suc k) ≤ n → (rest : List ℕ) → f n rest ≡ no z)
-    → ((n : ℕ) (rest : List ℕ) → j < length rest → Same j rest t (f n rest) (f n (rest ++ t)))
-    → Same (suc k + j) bs t (next (readNumber bs) f) (next (readNumber (bs ++ t)) f)
-same-take {B} k j z bs t f h enough refuses s = go (read-behind mostGroups bs t)
+-- of bytes that are enough for any number, and of them with others behind: a number that few groups hold takes few bytes
+pub data SameNumber (bs t : List ℕ) : Reading ℕ → Reading ℕ → Type 0 where
+  taken : (n : ℕ) (rest : List ℕ) → ((k : ℕ) → n < limit (suc k) → length bs ≤ length rest + suc k) → SameNumber bs t (got n rest) (got n (rest ++ t))
+  refused : (z : ℤ) → SameNumber bs t (no z) (no z)
+
+pub same-number : (bs t : List ℕ) → mostGroups ≤ length bs → SameNumber bs t (readNumber bs) (readNumber (bs ++ t))
+same-number bs t h = go (read-behind mostGroups bs t)
   where
-    go : {r r′ : Reading (List ℕ)} → Behind mostGroups bs t r r′ → Same (suc k + j) bs t (next (numberFrom r) f) (next (numberFrom r′) f)
-    go groups.over = off (pos 8)
+    go : {r r′ : Reading (List ℕ)} → Behind mostGroups bs t r r′ → SameNumber bs t (numberFrom r) (numberFrom r′)
+    go groups.over = refused (pos 8)
     go (groups.cut r l) = absurd (omega arith)
     go (groups.taken g gs front rest e l) = second (needless (g ∷ gs)) (large-value g gs)
       where
@@ -67,16 +68,34 @@ same-take {B} k j z bs t f h enough refuses s = go (read-behind mostGroups bs t)
         long : length bs ≡ suc (length gs) + length rest
         long = omega (arith, ap length e, length-append front rest)
 
-        longer : {r r′ : Reading B} → length gs ≤ k → Same j rest t r r′ → Same (suc k + j) bs t r r′
-        longer i (off n) = off n
-        longer i (on b rest′ m) = on b rest′ (omega (arith, long))
-
-        third : (c : Bool) → (c ≡ true → length gs ≤ k) → (c ≡ false → limit (suc k) ≤ n) → Same (suc k + j) bs t (f n rest) (f n (rest ++ t))
-        third true y x = let i = y refl in longer i (s n rest (omega (arith, long)))
-        third false y x = simp (refuses n (x refl) rest, refuses n (x refl) (rest ++ t)) (off z)
+        few : ((k : ℕ) → k < length gs → limit (suc k) ≤ n) → (k : ℕ) → n < limit (suc k) → length bs ≤ length rest + suc k
+        few large k small = third (leb (length gs) k) (leb-true (length gs) k) (leb-false (length gs) k)
+          where
+            third : (c : Bool) → (c ≡ true → length gs ≤ k) → (c ≡ false → k < length gs) → length bs ≤ length rest + suc k
+            third true y x = omega (arith, long, y refl)
+            third false y x = absurd (omega (arith, small, large k (x refl)))
 
         second : (c : Bool) → (c ≡ false → (k : ℕ) → k < length gs → limit (suc k) ≤ n)
-            → Same (suc k + j) bs t (next (checked c (pos 8) n rest) f) (next (checked c (pos 8) n (rest ++ t)) f)
-        second true large = off (pos 8)
-        second false large =
-            third (leb (length gs) k) (leb-true (length gs) k) (λ i. large refl k (leb-false (length gs) k i))
+            → SameNumber bs t (checked c (pos 8) n rest) (checked c (pos 8) n (rest ++ t))
+        second true large = refused (pos 8)
+        second false large = taken n rest (few (large refl))
+
+-- what refuses a number that k groups after the first do not hold
+pub same-take :
+    {B : Type 0} (k j : ℕ) (z : ℤ) (bs t : List ℕ) (f : ℕ → List ℕ → Reading B) → suc k + j < length bs → mostGroups ≤ length bs
+    → ((n : ℕ) → limit (suc k) ≤ n → (rest : List ℕ) → f n rest ≡ no z)
+    → ((n : ℕ) (rest : List ℕ) → j < length rest → Same j rest t (f n rest) (f n (rest ++ t)))
+    → Same (suc k + j) bs t (next (readNumber bs) f) (next (readNumber (bs ++ t)) f)
+same-take {B} k j z bs t f h enough refuses s = go (same-number bs t enough)
+  where
+    longer : {rest : List ℕ} {r r′ : Reading B} → length bs ≤ length rest + suc k → Same j rest t r r′ → Same (suc k + j) bs t r r′
+    longer i (off n) = off n
+    longer i (on b rest′ m) = on b rest′ (omega arith)
+
+    go : {r r′ : Reading ℕ} → SameNumber bs t r r′ → Same (suc k + j) bs t (next r f) (next r′ f)
+    go (refused z) = off z
+    go (taken n rest few) = second (ltb n (limit (suc k))) (ltb-true n (limit (suc k))) (ltb-false n (limit (suc k)))
+      where
+        second : (c : Bool) → (c ≡ true → n < limit (suc k)) → (c ≡ false → limit (suc k) ≤ n) → Same (suc k + j) bs t (f n rest) (f n (rest ++ t))
+        second true y x = let i = few k (y refl) in longer i (s n rest (omega (arith, i)))
+        second false y x = simp (refuses n (x refl) rest, refuses n (x refl) (rest ++ t)) (off z)

@@ -20,12 +20,15 @@ use Rattle.sheet.specs.declared.Crossing.{Crossing}
 use Rattle.sheet.specs.Points.{within}
 use Rattle.sheet.specs.Answers.{refusalIn, madeSays, endsSay, signedSays, crossingSays}
 use Rattle.number.specs.declared.Number.{Number}
+use Rattle.store.specs.declared.Form.{Form}
+use Rattle.store.specs.declared.Formed.{Formed}
 use Rattle.store.specs.declared.Read.{Read}
 use Rattle.store.specs.declared.Written.{Written}
 use Rattle.store.specs.declared.Bookmark.{Bookmark}
 use Rattle.store.specs.declared.Stepped.{Stepped}
 use Rattle.store.specs.declared.Reader.{Reader}
 use Rattle.store.specs.declared.Taken.{Taken}
+use Rattle.store.specs.Answers.{formedSays}
 use Rattle.store.specs.Reader.{itemSays}
 use Rattle.listing.specs.declared.Listed.{Listed}
 use Rattle.rowtext.specs.declared.Put.{Put}
@@ -33,6 +36,7 @@ use Rattle.screen.specs.declared.OnScreen.{OnScreen}
 use Rattle.screen.specs.declared.Boxed.{Boxed}
 use Rattle.screen.specs.Places.{placeSays}
 use Rattle.screen.specs.Boxes.{boxedSays}
+use Rattle.trial.specs.declared.TwoNumbers.{TwoNumbers}
 use Rattle.trial.specs.declared.ThreeNumbers.{ThreeNumbers}
 use Rattle.trial.specs.declared.SixNumbers.{SixNumbers}
 use Rattle.spot.specs.declared.TwoEnds.{TwoEnds}
@@ -52,7 +56,9 @@ use Rattle.kernel.proofs.circle.side_of_circle.Reads as side-of-circle
 use Rattle.kernel.proofs.crossing.cross.Reads as cross
 use Rattle.store.proofs.check_drawing.Reads as check-drawing
 use Rattle.store.proofs.read_drawing.Reads as read-drawing
+use Rattle.store.proofs.form_of.Reads as form-of
 use Rattle.store.proofs.write_drawing.Reads as write-drawing
+use Rattle.store.proofs.move_drawing.Reads as move-drawing
 use Rattle.store.proofs.step.Reads as step
 use Rattle.number.proofs.read_number.Reads as read-number
 use Rattle.store.proofs.next as next
@@ -70,6 +76,8 @@ use Rattle.viewer.proofs.silvanelga_side.Reads as viewer-side
 use Rattle.trial.proofs.silvanelga_trial_list.Reads as trial-list
 use Rattle.trial.proofs.silvanelga_trial_read.Reads as trial-read
 use Rattle.trial.proofs.silvanelga_trial_write.Reads as trial-write
+use Rattle.trial.proofs.silvanelga_trial_form.Reads as trial-form
+use Rattle.trial.proofs.silvanelga_trial_move.Reads as trial-move
 use Rattle.trial.proofs.silvanelga_trial_number.Reads as trial-number
 use Rattle.trial.proofs.silvanelga_trial_place.Reads as trial-place
 use Rattle.trial.proofs.silvanelga_trial_box.Reads as trial-box
@@ -89,6 +97,10 @@ Five = ℤ × (ℤ × (ℤ × Two))
 -- "-1, 0, 1, or 100 plus the refusal": what an answer of silvanelga_side refuses by; a number that is none of these counts as it is
 abbrev pub sideRefusalIn : ℤ → ℤ
 sideRefusalIn r = cond (ltZ (pos 100) r) (r -ℤ pos 100) (cond (within (pos 1) r) (pos 0) r)
+
+-- 1, 2, or 100 plus the refusal: what an answer of silvanelga_trial_form refuses by
+abbrev pub formRefusalIn : ℤ → ℤ
+formRefusalIn r = cond (ltZ (pos 100) r) (r -ℤ pos 100) (pos 0)
 
 pub record Calls (P : ℤ → Type 0) : Type 0 where
   -- sheet: objects made, objects and lists checked
@@ -110,12 +122,15 @@ pub record Calls (P : ℤ → Type 0) : Type 0 where
   pub of-cross : (κs : Lfts 0) (a b : Object) (r : Crossing) → cross.Post κs (a, (b, tt)) r (a, (b, tt)) → P (refusalIn (crossingSays r))
   -- number: a stored number
   pub of-read-number : (κs : Lfts 1) (bytes : RefT (List ℕ)) (r : Number) → read-number.Post κs (bytes, tt) r (bytes, tt) → P (r .refusal)
-  -- store: drawings checked, read and written, and read one object a call
+  -- store: drawings checked, read, told by their form, written and moved, and read one object a call
   pub of-check-drawing : (κs : Lfts 1) (bytes : RefT (List ℕ)) (r : ℤ) → check-drawing.Post κs (bytes, tt) r (bytes, tt) → P r
   pub of-read-drawing : (κs : Lfts 2) (bytes : RefT (List ℕ)) (out after : RefT (List ℤ)) (r : Read)
       → read-drawing.Post κs (bytes, (out, tt)) r (bytes, (after, tt)) → P (r .refusal)
-  pub of-write-drawing : (κs : Lfts 2) (list : RefT (List ℤ)) (out after : RefT (List ℕ)) (r : Written)
-      → write-drawing.Post κs (list, (out, tt)) r (list, (after, tt)) → P (r .refusal)
+  pub of-form-of : (κs : Lfts 1) (bytes : RefT (List ℕ)) (r : Formed) → form-of.Post κs (bytes, tt) r (bytes, tt) → P (refusalIn (formedSays r))
+  pub of-write-drawing : (κs : Lfts 2) (form : Form) (list : RefT (List ℤ)) (out after : RefT (List ℕ)) (r : Written)
+      → write-drawing.Post κs (form, (list, (out, tt))) r (form, (list, (after, tt))) → P (r .refusal)
+  pub of-move-drawing : (κs : Lfts 2) (bytes : RefT (List ℕ)) (form : Form) (out after : RefT (List ℕ)) (r : Written)
+      → move-drawing.Post κs (bytes, (form, (out, tt))) r (bytes, (form, (after, tt))) → P (r .refusal)
   pub of-step : (κs : Lfts 1) (bytes : RefT (List ℕ)) (place : Bookmark) (r : Stepped)
       → step.Post κs (bytes, (place, tt)) r (bytes, (place, tt)) → P (refusalIn (itemSays (r .item)))
   pub of-next : (κs : Lfts 1) (reader : Reader) (r : Taken) (e : AtExit next.ended κs) → NextPost κs reader r e → P (refusalIn (itemSays (r .item)))
@@ -144,8 +159,11 @@ pub record Calls (P : ℤ → Type 0) : Type 0 where
   pub of-trial-list : (κs : Lfts 2) (list out after : RefT (List ℤ)) (r : ℤ) → trial-list.Post κs (list, (out, tt)) r (list, (after, tt)) → P r
   pub of-trial-read : (κs : Lfts 2) (bytes : RefT (List ℕ)) (out after : RefT (List ℤ)) (r : ℤ)
       → trial-read.Post κs (bytes, (out, tt)) r (bytes, (after, tt)) → P r
-  pub of-trial-write : (κs : Lfts 2) (list : RefT (List ℤ)) (out after : RefT (List ℕ)) (r : ℤ)
-      → trial-write.Post κs (list, (out, tt)) r (list, (after, tt)) → P r
+  pub of-trial-write : (κs : Lfts 2) (form : ℤ) (list : RefT (List ℤ)) (out after : RefT (List ℕ)) (r : ℤ)
+      → trial-write.Post κs (form, (list, (out, tt))) r (form, (list, (after, tt))) → P r
+  pub of-trial-form : (κs : Lfts 1) (bytes : RefT (List ℕ)) (r : ℤ) → trial-form.Post κs (bytes, tt) r (bytes, tt) → P (formRefusalIn r)
+  pub of-trial-move : (κs : Lfts 2) (bytes : RefT (List ℕ)) (form : ℤ) (out after : RefT (List ℕ)) (r : TwoNumbers)
+      → trial-move.Post κs (bytes, (form, (out, tt))) r (bytes, (form, (after, tt))) → P (r .refusal)
   pub of-trial-number : (κs : Lfts 1) (bytes : RefT (List ℕ)) (r : ThreeNumbers) → trial-number.Post κs (bytes, tt) r (bytes, tt) → P (r .refusal)
   pub of-trial-place : (κs : Lfts 0) (a : Five) (r : SixNumbers) → trial-place.Post κs a r a → P (r .refusal)
   pub of-trial-box : (κs : Lfts 1) (l : RefT (List ℤ)) (r : SixNumbers) → trial-box.Post κs (l, tt) r (l, tt) → P (r .refusal)

@@ -4,12 +4,14 @@
 --   once-taken         the point that a crossing answers is a point: no call refuses it by 5
 -- Assumes nothing.
 use mathlib.Core.Path.{_≡_, refl, sym, ap, subst, _∙_}
+use mathlib.Core.Logic.{⊎-elim}
 use mathlib.Core.Bool.{Bool, true, false, cond, true≢false}
 use mathlib.Core.List.{List, [], _∷_}
 use Prim.Native.Nat.{ℕ, zero, suc, _+_, _*_, _%_}
 use native.Mathlib.Omega.{arith}
 use lib.Dec.{eqb, ltb}
-use lib.IntN.{ℤ, pos, negsuc, _+ℤ_}
+use lib.IntN.{ℤ, pos, negsuc, _+ℤ_, _-ℤ_}
+use lib.Signed.{ltZ}
 use lib.ListN.{length, drop}
 use contract.Lifetimes.{Lfts}
 use denote.Ref.{RefT}
@@ -38,13 +40,16 @@ use Rattle.store.specs.declared.Stepped.{Stepped}
 use Rattle.store.specs.declared.Taken.{Taken}
 use Rattle.store.specs.declared.Written.{Written}
 use Rattle.store.specs.Refusals.{ofBytes}
-use Rattle.store.specs.Stored.{plain, readDrawing, writeDrawing, allUntagged, tagsRefusal, writeRefusal}
+use Rattle.store.specs.declared.Form.{Form}
+use Rattle.store.specs.declared.Form.the-variants.{Old, New}
+use Rattle.store.specs.Stored.{Head, readDrawing, formOf, writeDrawing, tagsRefusal, writeRefusal, moveRefusal, moved}
+use Rattle.store.specs.TagsLaws.{tags-refused}
 use Rattle.number.specs.declared.Number.{Number}
 use Rattle.number.specs.Number.{Reading, readNumber, numberOf}
-use Rattle.store.specs.SureLaws.{Sure, Any, sure-number, sure-object, sure-count}
+use Rattle.store.specs.SureLaws.{Sure, Any, sure-number, sure-object, sure-head}
 use Rattle.store.specs.SureLaws as sure
-use Rattle.store.specs.Reader.{stepObject, stepFrom, stepCounted, stepOf, itemSays}
-use Rattle.store.specs.Answers.{readAnswer, writeAnswer}
+use Rattle.store.specs.Reader.{stepObject, stepFrom, stepHead, stepOf, itemSays}
+use Rattle.store.specs.Answers.{readAnswer, writeAnswer, moveAnswer, formNumber, formAnswer}
 use Rattle.listing.specs.declared.Listed.{Listed}
 use Rattle.listing.specs.Rows.{sharingWith, sharing}
 use Rattle.listing.specs.Listing.{oneRefusal}
@@ -53,16 +58,18 @@ use Rattle.rowtext.specs.Text.{objectsWord, rowsWord, refusedWord, rowsText, co
 use Rattle.rowtext.specs.Put.{rowsRefusal}
 use Rattle.screen.specs.Values.{Values, floatAnswer}
 use Rattle.screen.specs.Places.{placeOf}
+use Rattle.trial.specs.declared.TwoNumbers.{TwoNumbers}
 use Rattle.trial.specs.declared.ThreeNumbers.{ThreeNumbers}
+use Rattle.trial.specs.Numbers.{formFrom, formTold}
 use Rattle.trial.specs.declared.SixNumbers.{SixNumbers}
 use Rattle.spot.specs.declared.TwoEnds.{TwoEnds}
 use Rattle.spot.specs.declared.Answer.{Answer}
 use Rattle.viewer.specs.SideIs.{ofSide, SideIs, a-sign, a-refusal}
 use Rattle.viewer.specs.SideIsLaws.{side-answers}
 use Rattle.viewer.specs.Calls.{sideAnswer}
-use Rattle.viewer.specs.ReadingLaws.{bytes-refusal}
+use Rattle.store.specs.SoundLaws.{bytes-refusal}
 use Rattle.kernel.proofs.crossing.cross.Reads as cross
-use Rattle.refusals.specs.Calls.{sideRefusalIn, Calls, Never}
+use Rattle.refusals.specs.Calls.{sideRefusalIn, formRefusalIn, Calls, Never}
 
 -- ---- an answer's numbers
 
@@ -109,14 +116,17 @@ known-read : {z : ℤ} (bs : List ℕ) (lent : RefT (List ℤ)) → z ≡ readAn
 unfolding readAnswer
 known-read bs lent e = known-lent _ (short lent (length (readDrawing bs .objects))) (known-bytes bs) e
 
-known-write : (l : List ℤ) → Known (writeRefusal l)
-unfolding writeRefusal
-known-write l =
-    known-or (listRefusal l) (tagsRefusal l) (known-list l) (cond-by Known (allUntagged l (countOf l)) (λ e. one-of 0 refl) (λ e. one-of 16 refl))
+known-tags : (f : Form) (l : List ℤ) → Known (tagsRefusal f l)
+known-tags f l = ⊎-elim (λ e. subst Known (sym e) (one-of 0 refl)) (λ e. subst Known (sym e) (one-of 16 refl)) (tags-refused l f)
 
-known-written : {z : ℤ} (l : List ℤ) (lent : RefT (List ℕ)) → z ≡ writeAnswer l (lent .now) .refusal → Known z
-unfolding writeAnswer
-known-written l lent e = known-lent _ (short lent (length (writeDrawing l))) (known-write l) e
+known-written : {z : ℤ} (f : Form) (l : List ℤ) (lent : RefT (List ℕ)) → z ≡ writeAnswer f l (lent .now) .refusal → Known z
+unfolding writeAnswer writeRefusal
+known-written f l lent e = known-lent _ (short lent (length (writeDrawing f l))) (known-or _ _ (known-list l) (known-tags f l)) e
+
+known-moved : {z : ℤ} (f : Form) (bs : List ℕ) (lent : RefT (List ℕ)) → z ≡ moveAnswer f bs (lent .now) .refusal → Known z
+unfolding moveAnswer moveRefusal
+known-moved f bs lent e =
+    known-lent _ (short lent (length (moved f bs))) (known-or _ _ (known-bytes bs) (known-tags f (readDrawing bs .objects))) e
 
 number-known : (bs : List ℕ) → Known (numberOf bs (readNumber bs) .refusal)
 number-known bs = go (sure-number bs)
@@ -130,24 +140,24 @@ number-known bs = go (sure-number bs)
 abbrev ItemKnown : Item → Type 0
 ItemKnown i = Known (refusalIn (itemSays i))
 
-item-object : (bs : List ℕ) (p : Bookmark) (left : ℕ) {P : Object → Type 0} {from : List ℕ} {r : Reading Object} → Sure P from r
-    → ItemKnown (stepObject bs p left r .item)
-item-object bs p left (sure.read o front rest e h) = one-of 0 refl
-item-object bs p left (sure.refused n e) = one-among ofBytes _ refl (one-of n e)
+item-object : (bs : List ℕ) (p : Bookmark) (f : Form) (left : ℕ) {P : Object → Type 0} {from : List ℕ} {r : Reading Object} → Sure P from r
+    → ItemKnown (stepObject bs p f left r .item)
+item-object bs p f left (sure.read o front rest e h) = one-of 0 refl
+item-object bs p f left (sure.refused n e) = one-among ofBytes _ refl (one-of n e)
 
-item-from : (bs : List ℕ) (p : Bookmark) (left at : ℕ) → ItemKnown (stepFrom bs p left at .item)
+item-from : (bs : List ℕ) (p : Bookmark) (f : Form) (left at : ℕ) → ItemKnown (stepFrom bs p f left at .item)
 unfolding stepFrom
-item-from bs p zero at = cond-by ItemKnown (ltb at (length bs)) (λ e. one-of 9 refl) (λ e. one-of 0 refl)
-item-from bs p (suc left) at = item-object bs p left (sure-object plain (drop at bs))
+item-from bs p f zero at = cond-by ItemKnown (ltb at (length bs)) (λ e. one-of 9 refl) (λ e. one-of 0 refl)
+item-from bs p f (suc left) at = item-object bs p f left (sure-object f (drop at bs))
 
-item-counted : (bs : List ℕ) (p : Bookmark) {P : ℕ → Type 0} {from : List ℕ} {r : Reading ℕ} → Sure P from r → ItemKnown (stepCounted bs p r .item)
-item-counted bs p (sure.read n front rest e h) = item-from bs p n _
-item-counted bs p (sure.refused n e) = one-among ofBytes _ refl (one-of n e)
+item-head : (bs : List ℕ) (p : Bookmark) {P : Head → Type 0} {from : List ℕ} {r : Reading Head} → Sure P from r → ItemKnown (stepHead bs p r .item)
+item-head bs p (sure.read h front rest e _) = item-from bs p (h .form) (h .count) _
+item-head bs p (sure.refused n e) = one-among ofBytes _ refl (one-of n e)
 
 item-known : (bs : List ℕ) (p : Bookmark) → ItemKnown (stepOf bs p .item)
 unfolding stepOf
 item-known bs p =
-    cond-by (λ (s : Stepped). ItemKnown (s .item)) (p .begun) (λ e. item-from bs p (p .left) (p .at)) (λ e. item-counted bs p (sure-count bs))
+    cond-by (λ (s : Stepped). ItemKnown (s .item)) (p .begun) (λ e. item-from bs p (p .form) (p .left) (p .at)) (λ e. item-head bs p (sure-head bs))
 
 -- ---- the viewer's side
 
@@ -158,12 +168,15 @@ sign-in (pos (suc (suc n))) h = absurd (omega (arith, h .within))
 sign-in (negsuc zero) h = refl
 sign-in (negsuc (suc n)) h = absurd (omega (arith, h .within))
 
+-- behind the hundred stands the refusal
+hundred-less : (n : ℕ) (other : ℤ) → cond (ltZ (pos 100) (pos 100 +ℤ pos (suc n))) (pos 100 +ℤ pos (suc n) -ℤ pos 100) other ≡ pos (suc n)
+hundred-less n other =
+    let above = lt-ltZ {a = pos 100} {b = pos (100 + suc n)} (lt-intro n refl) in
+    simp above (ring (pos (suc n) ∷ []) (lit 100 ⊕ var 0 ⊖ lit 100) (var 0) tt)
+
 refused-in : (n : ℕ) → among n ofSide ≡ true → Known (sideRefusalIn (pos 100 +ℤ pos n))
 refused-in zero e = absurd (true≢false (sym e))
-refused-in (suc n) e =
-    let above = lt-ltZ {a = pos 100} {b = pos (100 + suc n)} (lt-intro n refl) in
-    let rest : sideRefusalIn (pos 100 +ℤ pos (suc n)) ≡ pos (suc n) = simp above (ring (pos (suc n) ∷ []) (lit 100 ⊕ var 0 ⊖ lit 100) (var 0) tt) in
-    subst Known (sym rest) (one-among ofSide _ refl (one-of (suc n) e))
+refused-in (suc n) e = subst Known (sym (hundred-less n _)) (one-among ofSide _ refl (one-of (suc n) e))
 
 side-known : (bs : List ℕ) (i x y : ℤ) → Known (sideRefusalIn (sideAnswer bs i x y))
 side-known bs i x y = go (side-answers bs i x y)
@@ -172,6 +185,26 @@ side-known bs i x y = go (side-answers bs i x y)
     go (a-sign e f w) = subst Known (sym (sign-in _ w)) (one-of 0 refl)
     go (a-refusal o e) =
         subst (λ (z : ℤ). Known (sideRefusalIn z)) (sym (e ∙ ap (λ (z : ℤ). pos 100 +ℤ z) (o .is))) (refused-in (o .number) (o .one))
+
+-- ---- which form
+
+form-known : (bs : List ℕ) {said : List ℤ} → said ≡ formAnswer bs → Known (refusalIn said)
+unfolding formAnswer
+form-known bs e = known-answer _ _ (known-bytes bs) e
+
+number-in : (f : Form) → Known (formRefusalIn (formNumber f))
+number-in Old = one-of 0 refl
+number-in New = one-of 0 refl
+
+told-in : (n : ℕ) → among n (0 ∷ ofBytes) ≡ true → Known (formRefusalIn (pos 100 +ℤ pos n))
+told-in zero e = one-of 0 refl
+told-in (suc n) e = subst Known (sym (hundred-less n _)) (one-among (0 ∷ ofBytes) _ refl (one-of (suc n) e))
+
+told-known : (bs : List ℕ) → Known (formRefusalIn (formTold bs))
+told-known bs =
+    let o = bytes-refusal bs in
+    cond-by (λ (z : ℤ). Known (formRefusalIn z)) (eqZ (readDrawing bs .refusal) (pos 0)) (λ _. number-in (formOf bs))
+    (λ _. subst (λ (z : ℤ). Known (formRefusalIn (pos 100 +ℤ z))) (sym (o .is)) (told-in (o .number) (o .one)))
 
 -- ---- the calls
 
@@ -193,7 +226,9 @@ calls P f = record {
   of-read-number = λ κs bytes r e. f _ (subst Known (sym (ap (λ (x : Number). x .refusal) (e .0))) (number-known (bytes .now)));
   of-check-drawing = λ κs bytes r e. f _ (subst Known (sym e) (known-bytes (bytes .now)));
   of-read-drawing = λ κs bytes out after r e. f _ (known-read (bytes .now) out (ap (λ (x : Read). x .refusal) (e .0)));
-  of-write-drawing = λ κs list out after r e. f _ (known-written (list .now) out (ap (λ (x : Written). x .refusal) (e .0)));
+  of-form-of = λ κs bytes r e. f _ (form-known (bytes .now) e);
+  of-write-drawing = λ κs form list out after r e. f _ (known-written form (list .now) out (ap (λ (x : Written). x .refusal) (e .0)));
+  of-move-drawing = λ κs bytes form out after r e. f _ (known-moved form (bytes .now) out (ap (λ (x : Written). x .refusal) (e .0)));
   of-step = λ κs bytes place r e. f _ (subst (λ (x : Stepped). ItemKnown (x .item)) (sym e) (item-known (bytes .now) place));
   of-next = λ κs reader r x e. f _ (subst (λ (t : Taken). ItemKnown (t .item)) (sym e) (item-known (reader .bytes .now) (reader .place)));
   of-list-one = λ κs list i out after r e.
@@ -214,7 +249,9 @@ calls P f = record {
   of-viewer-side = λ κs bytes i x y r e. f _ (subst (λ (z : ℤ). Known (sideRefusalIn z)) (sym e) (side-known (bytes .now) i x y));
   of-trial-list = λ κs list out after r e. f _ (known-lent _ (short out (sharing (list .now) * rowWidth)) (known-list (list .now)) (e .0));
   of-trial-read = λ κs bytes out after r e. f _ (known-read (bytes .now) out (e .0));
-  of-trial-write = λ κs list out after r e. f _ (known-written (list .now) out (e .0));
+  of-trial-write = λ κs form list out after r e. f _ (known-written (formFrom form) (list .now) out (e .0));
+  of-trial-form = λ κs bytes r e. f _ (subst (λ (z : ℤ). Known (formRefusalIn z)) (sym e) (told-known (bytes .now)));
+  of-trial-move = λ κs bytes form out after r e. f _ (known-moved (formFrom form) (bytes .now) out (ap (λ (x : TwoNumbers). x .refusal) (e .0)));
   of-trial-number = λ κs bytes r e. f _ (subst Known (sym (ap (λ (x : ThreeNumbers). x .refusal) e)) (number-known (bytes .now)));
   of-trial-place = λ κs a r e. f _ (subst Known (sym (ap (λ (x : SixNumbers). x .refusal) e ∙ told-refusal _ _ (place-told _))) (known-point _));
   of-trial-box = λ κs l r e. f _ (subst Known (sym (ap (λ (x : SixNumbers). x .refusal) e ∙ told-refusal _ _ refl)) (known-list (l .now)));

@@ -20,11 +20,14 @@ use Rattle.sheet.specs.Answers.{objectNumbers}
 use Rattle.sheet.specs.Lists.{listRefusal}
 use Rattle.sheet.specs.Tags.{tagged}
 use Rattle.sheet.specs.Cases.{minus, object, segment, side, point, at}
-use Rattle.store.specs.Stored.{readCoordinate, readPoint, readSide, readTo, readPair, readShape, readObject, readObjects, readCount, readDrawing, writeRefusal}
+use Rattle.store.specs.declared.Form.{Form}
+use Rattle.store.specs.declared.Form.the-variants.{Old}
+use Rattle.store.specs.Forms.{readTag}
+use Rattle.store.specs.Stored.{readCoordinate, readPoint, readSide, readTo, readPair, readShape, readObject, readObjects, readForm, readCount, readHead, readDrawing, tagsRefusal, writeRefusal}
 use Rattle.number.specs.Number.{valueOf, needless, readGroups}
 use Rattle.store.specs.Answers.{readAnswer, writeAnswer}
 use Rattle.listing.specs.Listing.{oneRefusal}
-use Rattle.refusals.specs.Calls.{sideRefusalIn}
+use Rattle.refusals.specs.Calls.{sideRefusalIn, formRefusalIn}
 
 pub data Met (n : ℕ) : Type 0 where
   by-crossing : (a b : Object) → crossingRefusal a b ≡ pos n → Met n
@@ -32,7 +35,7 @@ pub data Met (n : ℕ) : Type 0 where
   by-circle : (p q s u : Point) → circleRefusal p q s u ≡ pos n → Met n
   by-rows : (l : List ℤ) (i : ℕ) → oneRefusal l i ≡ pos n → Met n
   by-reading : (bytes : List ℕ) (lent : List ℤ) → readAnswer (readDrawing bytes) lent .refusal ≡ pos n → Met n
-  by-writing : (l : List ℤ) (lent : List ℕ) → writeAnswer l lent .refusal ≡ pos n → Met n
+  by-writing : (f : Form) (l : List ℤ) (lent : List ℕ) → writeAnswer f l lent .refusal ≡ pos n → Met n
 
 pub data EachMet : List ℕ → Type 0 where
   none : EachMet []
@@ -45,7 +48,7 @@ abbrev origin : Point
 origin = at (pos 0) (pos 0)
 
 pub each-met : EachMet refusals
-unfolding sgn steps gcd gcdOf pairRefusal sideRefusal objectRefusal standard narrow frame isPoint pointRefusal turnRefusal isGiven givenRefusal circleRefusal crossingRefusal inTurn listRefusal valueOf needless readGroups readCoordinate readPoint readSide readTo readPair readShape readObject readObjects readCount readDrawing readAnswer writeRefusal writeAnswer
+unfolding sgn steps gcd gcdOf pairRefusal sideRefusal objectRefusal standard narrow frame isPoint pointRefusal turnRefusal isGiven givenRefusal circleRefusal crossingRefusal inTurn listRefusal valueOf needless readGroups readCoordinate readPoint readSide readTo readPair readTag readShape readObject readObjects readForm readCount readHead readDrawing readAnswer tagsRefusal writeRefusal writeAnswer
 each-met =
     more (by-crossing (object (pos 5) (pos 0) (pos 0) (pos 1) (pos 1)) fine refl)
     (more (by-crossing fine (segment (pos 0) (pos 0) (pos 2001) (pos 1)) refl)
@@ -61,8 +64,15 @@ each-met =
     (more (by-rows (objectNumbers fine) 1 refl)
     (more (by-rows (pos 4 ∷ []) 0 refl)
     (more (by-crossing fine (tagged (pos 2000001) fine) refl)
-    (more (by-writing (objectNumbers (tagged (pos 1) fine)) [] refl)
+    (more (by-writing Old (objectNumbers (tagged (pos 1) fine)) [] refl)
     (more (by-circle (at (pos 2001) (pos 0)) origin origin origin refl) none)))))))))))))))
+
+pub record WorkedForm : Type 0 where
+  -- 1, 2, or 100 plus the refusal
+  told : (formRefusalIn (pos 1) ≡ pos 0) × (formRefusalIn (pos 2) ≡ pos 0) × (formRefusalIn (pos 115) ≡ pos 15)
+
+pub worked-form : WorkedForm
+worked-form = record { told = (refl, refl, refl) }
 
 pub record WorkedSide : Type 0 where
   -- "-1, 0, 1, or 100 plus the refusal"

@@ -5,11 +5,13 @@ use lib.Dec.{T}
 use lib.IntN.{ℤ, pos, natAbs, _-ℤ_}
 use lib.Signed.{nonNeg}
 use Rattle.sheet.specs.declared.Object.{Object}
-use Rattle.sheet.specs.Limits.{reachSize}
+use Rattle.sheet.specs.Limits.{reachSize, lastTag}
 use Rattle.number.specs.Number.{zigzag}
-use Rattle.store.specs.Stored.{Form}
+use Rattle.store.specs.declared.Form.{Form}
+use Rattle.store.specs.declared.Form.the-variants.{Old, New}
+use Rattle.store.specs.Forms.{mark, origin}
 
--- a kind of 0 or more, and every number within the limits of coordinates
+-- a kind and a tag of 0 or more, the tag within its limit, and every other number within the limits of coordinates
 pub record Bounded (o : Object) : Type 0 where
   pub above : T (nonNeg (o .kind))
   pub kind : natAbs (o .kind) ≤ reachSize
@@ -17,16 +19,23 @@ pub record Bounded (o : Object) : Type 0 where
   pub py : natAbs (o .py) ≤ reachSize
   pub qx : natAbs (o .qx) ≤ reachSize
   pub qy : natAbs (o .qy) ≤ reachSize
+  pub tag-above : T (nonNeg (o .tag))
+  pub tag : natAbs (o .tag) ≤ natAbs lastTag
 
--- the numbers that a form stores for an object with two points, and for a side
+-- the numbers that a form stores for the kind and the tag of an object, and for its points
+abbrev pub frontNumbers : Form → Object → List ℕ
+frontNumbers Old o = natAbs (o .kind) ∷ []
+frontNumbers New o = natAbs (o .kind) ∷ natAbs (o .tag) ∷ []
+
 abbrev pub pairNumbers : Form → Object → List ℕ
 pairNumbers f o =
-    natAbs (o .kind)
-    ∷ zigzag (o .px -ℤ pos 0)
+    zigzag (o .px -ℤ pos 0)
     ∷ zigzag (o .py -ℤ pos 0)
-    ∷ zigzag (o .qx -ℤ f .origin (o .px))
-    ∷ zigzag (o .qy -ℤ f .origin (o .py))
+    ∷ zigzag (o .qx -ℤ origin f (o .px))
+    ∷ zigzag (o .qy -ℤ origin f (o .py))
     ∷ []
 
-abbrev pub sideNumbers : Object → List ℕ
-sideNumbers o = natAbs (o .kind) ∷ natAbs (o .px) ∷ []
+-- and those before the objects
+abbrev pub headNumbers : Form → ℕ → List ℕ
+headNumbers Old n = n ∷ []
+headNumbers New n = mark ∷ n ∷ []

@@ -11,7 +11,8 @@ use Rattle.whole.specs.InTurn.{inTurn, allOf}
 use Rattle.whole.specs.InTurnLaws.{turn-more}
 use Rattle.sheet.specs.Lists.{width, objectAt}
 use Rattle.sheet.specs.ListsLaws.{object-next}
-use Rattle.store.specs.Stored.{Form, writeObject, writeObjects}
+use Rattle.store.specs.declared.Form.{Form}
+use Rattle.store.specs.Stored.{writeObject, writeObjects}
 
 pub objects-more : (f : Form) (n : ℕ) (l : List ℤ) → writeObjects f (n + 1) l ≡ writeObjects f n l ++ writeObject f (objectAt l n)
 objects-more f n l = turn-more _++_ [] (λ i. writeObject f (objectAt l i)) n

@@ -13,7 +13,8 @@ use Rattle.sheet.specs.Limits.{most}
 use Rattle.sheet.specs.Refusal.{beyond}
 use Rattle.number.specs.Number.{limit, numberLimit, writeNumber, no}
 use Rattle.number.specs.TripLaws.{number-back}
-use Rattle.store.specs.Stored.{Form, readCoordinate, readSide, readObject, readCount}
+use Rattle.store.specs.declared.Form.{Form}
+use Rattle.store.specs.Stored.{readCoordinate, readSide, readObject, readCount}
 use Rattle.store.specs.LongestLaws.{large-beyond, large-outside}
 
 module _ (n : ℕ) (three : limit 2 ≤ n) (stored : n < numberLimit) (rest : List ℕ) where
@@ -29,6 +30,6 @@ module _ (n : ℕ) (three : limit 2 ≤ n) (stored : n < numberLimit) (rest : Li
   unfolding readObject
   kind-meets f = simp (number-back n rest stored, large-outside 1 4 n (omega arith))
 
-  pub side-meets : readSide (writeNumber n ++ rest) ≡ no (pos 4)
+  pub side-meets : (tag : ℤ) → readSide tag (writeNumber n ++ rest) ≡ no (pos 4)
   unfolding readSide
-  side-meets = simp (number-back n rest stored, large-outside 1 4 n (omega arith))
+  side-meets tag = simp (number-back n rest stored, large-outside 1 4 n (omega arith))

@@ -1,10 +1,12 @@
 -- Reading object by object. To cite:
 --   objects-step, objects-stop   one more object, or its refusal, by what the code is told at a place
 --   objects-length               six numbers an object
---   drawing-refused, drawing-counted   the count, and then the objects
+--   drawing-refused, drawing-counted   the form and the count, and then the objects
+--   form-found                         the form of an accepted drawing
 --   objects-end, objects-over    after the last object
 -- Assumes nothing.
 use mathlib.Core.Path.{_≡_, refl, sym, ap, _∙_}
+use mathlib.Core.Bool.{Bool, true, false}
 use mathlib.Core.List.{List, [], _∷_}
 use Prim.Native.Nat.{ℕ, zero, suc, _+_, _*_, _-_, _^_, _<_}
 use native.Mathlib.Omega.{arith}
@@ -16,14 +18,16 @@ use Rattle.sheet.specs.declared.Object.{Object}
 use Rattle.sheet.specs.Refusal.{Accepted}
 use Rattle.sheet.specs.Lists.{width}
 use Rattle.number.specs.Number.{Reading, got, no}
-use Rattle.store.specs.Stored.{Form, plain, refused, before, andThen, counted, readObject, readObjects, readCount, readDrawing}
+use Rattle.store.specs.declared.Form.{Form}
+use Rattle.store.specs.Stored.{Head, refused, before, andThen, counted, formIn, readObject, readObjects, readHead, readDrawing, formOf}
 use Rattle.number.specs.ReadAs.{ReadAs}
 use Rattle.store.specs.SureLaws.{Sure, not-nought, sure-object}
 use Rattle.store.specs.SureLaws as sure
 use lib.Signed.{mag}
 use mir.Syntax.{w64}
 use mir.Val.{ofZ}
-use Rattle.whole.specs.Tests.{eqZ-false, eq-left}
+use Rattle.whole.specs.Flag.{eqZ}
+use Rattle.whole.specs.Tests.{eqZ-true, eqZ-false, eq-left}
 
 objects-suc : (f : Form) (k : ℕ) (bs : List ℕ) → 0 < k → readObjects f k bs ≡ andThen (readObject f bs) (λ rest. readObjects f (k - 1) rest)
 unfolding readObjects
@@ -65,13 +69,23 @@ objects-length f (suc k) bs e = go (readObject f bs) (sure-object f bs) (objects
     go (got o rest) s l e = omega (arith, l rest e)
     go (no n) (sure.refused m z) l e = absurd (eqZ-false (not-nought m z) e)
 
--- ---- the count, and then the objects
+-- ---- the form and the count, and then the objects
 
-module _ {bs : List ℕ} {n : ℤ} {v size : ℕ} (t : ReadAs bs (readCount bs) n v size) (ok : mag n < 2 ^ 63) where
+module _ {bs : List ℕ} {n : ℤ} {h : Head} {size : ℕ} (t : ReadAs bs (readHead bs) n h size) (ok : mag n < 2 ^ 63) where
   pub drawing-refused : (ofZ w64 n ≡ 0 → ⊥) → readDrawing bs ≡ refused n
   unfolding readDrawing
-  drawing-refused d = ap (counted plain) (t .refused (eq-left {x = n} {y = pos 0} d))
+  drawing-refused d = ap counted (t .refused (eq-left {x = n} {y = pos 0} d))
 
-  pub drawing-counted : ofZ w64 n ≡ 0 → readDrawing bs ≡ readObjects plain v (drop size bs)
+  pub drawing-counted : ofZ w64 n ≡ 0 → readDrawing bs ≡ readObjects (h .form) (h .count) (drop size bs)
   unfolding readDrawing
-  drawing-counted e = ap (counted plain) (t .taken (not-refused ok refl e))
+  drawing-counted e = ap counted (t .taken (not-refused ok refl e))
+
+-- the head of an accepted drawing is taken, and its form is the drawing's
+pub form-found :
+    (bs : List ℕ) {n : ℤ} {h : Head} {size : ℕ} → ReadAs bs (readHead bs) n h size → readDrawing bs .refusal ≡ pos 0 → formOf bs ≡ h .form
+unfolding formOf readDrawing
+form-found bs {n} {h} t fine = go (eqZ n (pos 0)) refl
+  where
+    go : (taken : Bool) → eqZ n (pos 0) ≡ taken → formOf bs ≡ h .form
+    go true e = ap formIn (t .taken (eqZ-true e))
+    go false e = let d = eqZ-false e in absurd (d (sym (ap (λ (r : Reading Head). counted r .refusal) (t .refused d)) ∙ fine))

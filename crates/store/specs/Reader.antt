@@ -11,6 +11,8 @@ use Rattle.whole.specs.Flag.{eqZ}
 use Rattle.sheet.specs.declared.Object.{Object}
 use Rattle.sheet.specs.Answers.{objectNumbers}
 use Rattle.sheet.specs.Lists.{width, objectAt}
+use Rattle.store.specs.declared.Form.{Form}
+use Rattle.store.specs.declared.Form.the-variants.{Old}
 use Rattle.store.specs.declared.Bookmark.{Bookmark}
 use Rattle.store.specs.declared.Item.{Item}
 use Rattle.store.specs.declared.Item.the-variants.{One, End, Refused}
@@ -18,11 +20,11 @@ use Rattle.store.specs.declared.Stepped.{Stepped}
 use Rattle.store.specs.declared.Reader.{Reader}
 use Rattle.store.specs.declared.Taken.{Taken}
 use Rattle.number.specs.Number.{Reading, got, no}
-use Rattle.store.specs.Stored.{plain, Drawing, readObject, readCount}
+use Rattle.store.specs.Stored.{Head, Drawing, readObject, readHead}
 
--- before the first call: "its first call also reads the count"
+-- before the first call: "its first call also reads the count", and with it the form
 abbrev pub startPlace : Bookmark
-startPlace = record { begun = false; left = 0; at = 0 }
+startPlace = record { begun = false; form = Old; left = 0; at = 0 }
 
 -- where the rest of the bytes begins
 abbrev pub restBegins : List ℕ → List ℕ → ℕ
@@ -32,22 +34,22 @@ abbrev pub stepTo : Item → Bookmark → Stepped
 stepTo i p = record { item = i; place = p }
 
 -- "end and refusal keep its place"
-abbrev pub stepObject : List ℕ → Bookmark → ℕ → Reading Object → Stepped
-stepObject bs p left (got o rest) = stepTo (One o) (record { begun = true; left = left; at = restBegins bs rest })
-stepObject bs p left (no n) = stepTo (Refused n) p
+abbrev pub stepObject : List ℕ → Bookmark → Form → ℕ → Reading Object → Stepped
+stepObject bs p f left (got o rest) = stepTo (One o) (record { begun = true; form = f; left = left; at = restBegins bs rest })
+stepObject bs p f left (no n) = stepTo (Refused n) p
 
--- one call at the place p, where left objects are left and the next one begins at `at`.
+-- one call at the place p, where left objects of the form f are left and the next one begins at `at`.
 -- "After the last it says end, or 9 if bytes remain"
-unfoldable pub stepFrom : List ℕ → Bookmark → ℕ → ℕ → Stepped
-stepFrom bs p zero at = stepTo (cond (ltb at (length bs)) (Refused (pos 9)) End) p
-stepFrom bs p (suc left) at = stepObject bs p left (readObject plain (drop at bs))
+unfoldable pub stepFrom : List ℕ → Bookmark → Form → ℕ → ℕ → Stepped
+stepFrom bs p f zero at = stepTo (cond (ltb at (length bs)) (Refused (pos 9)) End) p
+stepFrom bs p f (suc left) at = stepObject bs p f left (readObject f (drop at bs))
 
-abbrev pub stepCounted : List ℕ → Bookmark → Reading ℕ → Stepped
-stepCounted bs p (got n rest) = stepFrom bs p n (restBegins bs rest)
-stepCounted bs p (no n) = stepTo (Refused n) p
+abbrev pub stepHead : List ℕ → Bookmark → Reading Head → Stepped
+stepHead bs p (got h rest) = stepFrom bs p (h .form) (h .count) (restBegins bs rest)
+stepHead bs p (no n) = stepTo (Refused n) p
 
 unfoldable pub stepOf : List ℕ → Bookmark → Stepped
-stepOf bs p = cond (p .begun) (stepFrom bs p (p .left) (p .at)) (stepCounted bs p (readCount bs))
+stepOf bs p = cond (p .begun) (stepFrom bs p (p .form) (p .left) (p .at)) (stepHead bs p (readHead bs))
 
 -- a call of a reader: the same bytes, at the place after the step
 abbrev pub takenOf : Reader → Taken

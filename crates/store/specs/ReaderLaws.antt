@@ -25,9 +25,10 @@ use Rattle.store.specs.declared.Item.{Item}
 use Rattle.store.specs.declared.Item.the-variants.{One, End, Refused}
 use Rattle.store.specs.declared.Stepped.{Stepped}
 use Rattle.number.specs.Number.{Reading, got, no}
-use Rattle.store.specs.Stored.{plain, Drawing, refused, before, andThen, counted, readObject, readObjects, readCount, readDrawing}
-use Rattle.store.specs.Reader.{startPlace, restBegins, stepTo, stepObject, stepFrom, stepCounted, stepOf, callFrom, endOf, itemOf, itemSays}
-use Rattle.store.specs.SureLaws.{Sure, not-nought, sure-object, sure-count}
+use Rattle.store.specs.declared.Form.{Form}
+use Rattle.store.specs.Stored.{Drawing, Head, refused, before, andThen, counted, readObject, readObjects, readHead, readDrawing}
+use Rattle.store.specs.Reader.{startPlace, restBegins, stepTo, stepObject, stepFrom, stepHead, stepOf, callFrom, endOf, itemOf, itemSays}
+use Rattle.store.specs.SureLaws.{Sure, not-nought, sure-object, sure-head}
 use Rattle.store.specs.SureLaws as sure
 use Rattle.store.specs.ObjectsLaws.{objects-end, objects-over}
 use Rattle.store.specs.StepLaws.{first-call}
@@ -72,10 +73,10 @@ call-next : (bs : List ℕ) (p : Bookmark) (k : ℕ) → callFrom bs p (suc k) �
 unfolding callFrom
 call-next bs p k = refl
 
-step-begun : (bs : List ℕ) (left at : ℕ) → let p : Bookmark = record { begun = true; left = left; at = at } in stepOf bs p
-    ≡ stepFrom bs p left at
+step-begun : (bs : List ℕ) (f : Form) (left at : ℕ) → let p : Bookmark = record { begun = true; form = f; left = left; at = at } in stepOf bs p
+    ≡ stepFrom bs p f left at
 unfolding stepOf
-step-begun bs left at = refl
+step-begun bs f left at = refl
 
 -- where the rest begins
 rest-at : (bs front rest : List ℕ) (at : ℕ) → at ≤ length bs → drop at bs ≡ front ++ rest
@@ -89,77 +90,78 @@ rest-at bs front rest at h e =
     )
 
 runs :
-    (left : ℕ) (bs : List ℕ) (at : ℕ) (p : Bookmark) → at ≤ length bs → stepOf bs p ≡ stepFrom bs p left at → (k : ℕ)
-    → callFrom bs p k ≡ itemOf (readObjects plain left (drop at bs)) k
+    (f : Form) (left : ℕ) (bs : List ℕ) (at : ℕ) (p : Bookmark) → at ≤ length bs → stepOf bs p ≡ stepFrom bs p f left at → (k : ℕ)
+    → callFrom bs p k ≡ itemOf (readObjects f left (drop at bs)) k
 unfolding stepFrom readObjects
-runs zero bs at p h e k = go (ltb at (length bs)) (ltb-true at (length bs)) (ltb-false at (length bs)) e
+runs f zero bs at p h e k = go (ltb at (length bs)) (ltb-true at (length bs)) (ltb-false at (length bs)) e
   where
     go : (t : Bool) → (t ≡ true → at < length bs) → (t ≡ false → length bs ≤ at) → stepOf bs p ≡ stepTo (cond t (Refused (pos 9)) End) p
-        → callFrom bs p k ≡ itemOf (readObjects plain 0 (drop at bs)) k
+        → callFrom bs p k ≡ itemOf (readObjects f 0 (drop at bs)) k
     go true y m e =
         let l = y refl in
         stays bs p (Refused (pos 9)) e k
-        ∙ sym (ap (λ (d : Drawing). itemOf d k) (objects-over plain (drop at bs) (omega (arith, length-drop at bs))) ∙ item-none (pos 9) k)
+        ∙ sym (ap (λ (d : Drawing). itemOf d k) (objects-over f (drop at bs) (omega (arith, length-drop at bs))) ∙ item-none (pos 9) k)
     go false y m e =
         let l = m refl in
         stays bs p End e k
-        ∙ sym (ap (λ (d : Drawing). itemOf d k) (objects-end plain (drop at bs) (omega (arith, length-drop at bs))) ∙ item-none (pos 0) k)
-runs (suc left) bs at p h e k = go (sure-object plain (drop at bs)) (runs left bs) e k
+        ∙ sym (ap (λ (d : Drawing). itemOf d k) (objects-end f (drop at bs) (omega (arith, length-drop at bs))) ∙ item-none (pos 0) k)
+runs f (suc left) bs at p h e k = go (sure-object f (drop at bs)) (runs f left bs) e k
   where
     go : {r : Reading Object} → Sure Accepted (drop at bs) r
-        → ((at : ℕ) (p : Bookmark) → at ≤ length bs → stepOf bs p ≡ stepFrom bs p left at → (k : ℕ)
-        → callFrom bs p k ≡ itemOf (readObjects plain left (drop at bs)) k)
-        → stepOf bs p ≡ stepObject bs p left r → (k : ℕ) → callFrom bs p k ≡ itemOf (andThen r (λ rest. readObjects plain left rest)) k
+        → ((at : ℕ) (p : Bookmark) → at ≤ length bs → stepOf bs p ≡ stepFrom bs p f left at → (k : ℕ)
+        → callFrom bs p k ≡ itemOf (readObjects f left (drop at bs)) k)
+        → stepOf bs p ≡ stepObject bs p f left r → (k : ℕ) → callFrom bs p k ≡ itemOf (andThen r (λ rest. readObjects f left rest)) k
     go (sure.refused n z) more e k = stays bs p (Refused (pos n)) e k ∙ sym (item-none (pos n) k ∙ simp (not-nought n z))
-    go (sure.read o front rest f a) more e zero =
-        sym (first-call bs p) ∙ ap (λ (s : Stepped). s .item) e ∙ sym (item-first o (readObjects plain left rest))
-    go (sure.read o front rest f a) more e (suc k) =
-        let there = rest-at bs front rest at h f in
-        let on : Bookmark = record { begun = true; left = left; at = restBegins bs rest } in
+    go (sure.read o front rest g a) more e zero =
+        sym (first-call bs p) ∙ ap (λ (s : Stepped). s .item) e ∙ sym (item-first o (readObjects f left rest))
+    go (sure.read o front rest g a) more e (suc k) =
+        let there = rest-at bs front rest at h g in
+        let on : Bookmark = record { begun = true; form = f; left = left; at = restBegins bs rest } in
         call-next bs p k
         ∙ ap (λ (s : Stepped). callFrom bs (s .place) k) e
-        ∙ more (restBegins bs rest) on (there .0) (step-begun bs left (restBegins bs rest)) k
-        ∙ ap (λ (l : List ℕ). itemOf (readObjects plain left l) k) (there .1)
-        ∙ sym (item-next o (readObjects plain left rest) k)
+        ∙ more (restBegins bs rest) on (there .0) (step-begun bs f left (restBegins bs rest)) k
+        ∙ ap (λ (l : List ℕ). itemOf (readObjects f left l) k) (there .1)
+        ∙ sym (item-next o (readObjects f left rest) k)
 
 -- "calling it again and again gives exactly the objects of the drawing in order and then end, or the objects before the refusal and then
 -- that refusal"
 pub calls-give : (bs : List ℕ) (k : ℕ) → callFrom bs startPlace k ≡ itemOf (readDrawing bs) k
 unfolding readDrawing stepOf
-calls-give bs k = go (sure-count bs) refl
+calls-give bs k = go (sure-head bs) refl
   where
-    go : {r : Reading ℕ} → Sure (λ n. n ≤ most) bs r → stepOf bs startPlace ≡ stepCounted bs startPlace r → callFrom bs startPlace k ≡ itemOf (counted plain r) k
+    go : {r : Reading Head} → Sure (λ h. h .count ≤ most) bs r → stepOf bs startPlace ≡ stepHead bs startPlace r → callFrom bs startPlace k ≡ itemOf (counted r) k
     go (sure.refused n z) e = stays bs startPlace (Refused (pos n)) e k ∙ sym (item-none (pos n) k ∙ simp (not-nought n z))
-    go (sure.read n front rest f a) e =
-        let there = rest-at bs front rest 0 (omega arith) f in
-        runs n bs (restBegins bs rest) startPlace (there .0) e k ∙ ap (λ (l : List ℕ). itemOf (readObjects plain n l) k) (there .1)
+    go (sure.read h front rest g a) e =
+        let there = rest-at bs front rest 0 (omega arith) g in
+        runs (h .form) (h .count) bs (restBegins bs rest) startPlace (there .0) e k
+        ∙ ap (λ (l : List ℕ). itemOf (readObjects (h .form) (h .count) l) k) (there .1)
 
 -- ---- the end and a refusal
 
-kept : (bs : List ℕ) (p : Bookmark) (left : ℕ) (r : Reading Object)
-    → ((o : Object) → stepObject bs p left r .item ≡ One o → ⊥) → stepObject bs p left r .place ≡ p
-kept bs p left (got o rest) h = absurd (h o refl)
-kept bs p left (no n) h = refl
+kept : (bs : List ℕ) (p : Bookmark) (f : Form) (left : ℕ) (r : Reading Object)
+    → ((o : Object) → stepObject bs p f left r .item ≡ One o → ⊥) → stepObject bs p f left r .place ≡ p
+kept bs p f left (got o rest) h = absurd (h o refl)
+kept bs p f left (no n) h = refl
 
-kept-from : (bs : List ℕ) (p : Bookmark) (left at : ℕ) → ((o : Object) → stepFrom bs p left at .item ≡ One o → ⊥)
-    → stepFrom bs p left at .place ≡ p
+kept-from : (bs : List ℕ) (p : Bookmark) (f : Form) (left at : ℕ) → ((o : Object) → stepFrom bs p f left at .item ≡ One o → ⊥)
+    → stepFrom bs p f left at .place ≡ p
 unfolding stepFrom
-kept-from bs p zero at h = refl
-kept-from bs p (suc left) at h = kept bs p left (readObject plain (drop at bs)) h
+kept-from bs p f zero at h = refl
+kept-from bs p f (suc left) at h = kept bs p f left (readObject f (drop at bs)) h
 
-kept-counted : (bs : List ℕ) (p : Bookmark) (r : Reading ℕ) → ((o : Object) → stepCounted bs p r .item ≡ One o → ⊥)
-    → stepCounted bs p r .place ≡ p
-kept-counted bs p (got n rest) h = kept-from bs p n (restBegins bs rest) h
-kept-counted bs p (no n) h = refl
+kept-head : (bs : List ℕ) (p : Bookmark) (r : Reading Head) → ((o : Object) → stepHead bs p r .item ≡ One o → ⊥)
+    → stepHead bs p r .place ≡ p
+kept-head bs p (got h rest) g = kept-from bs p (h .form) (h .count) (restBegins bs rest) g
+kept-head bs p (no n) h = refl
 
 pub keeps : (bs : List ℕ) (p : Bookmark) → ((o : Object) → stepOf bs p .item ≡ One o → ⊥) → stepOf bs p .place ≡ p
 unfolding stepOf
 keeps bs p h = go (p .begun) h
   where
-    go : (t : Bool) → ((o : Object) → cond t (stepFrom bs p (p .left) (p .at)) (stepCounted bs p (readCount bs)) .item ≡ One o → ⊥)
-        → cond t (stepFrom bs p (p .left) (p .at)) (stepCounted bs p (readCount bs)) .place ≡ p
-    go true h = kept-from bs p (p .left) (p .at) h
-    go false h = kept-counted bs p (readCount bs) h
+    go : (t : Bool) → ((o : Object) → cond t (stepFrom bs p (p .form) (p .left) (p .at)) (stepHead bs p (readHead bs)) .item ≡ One o → ⊥)
+        → cond t (stepFrom bs p (p .form) (p .left) (p .at)) (stepHead bs p (readHead bs)) .place ≡ p
+    go true h = kept-from bs p (p .form) (p .left) (p .at) h
+    go false h = kept-head bs p (readHead bs) h
 
 -- ---- no two items say the same
 

@@ -16,7 +16,9 @@ use Rattle.sheet.specs.Refusal.{sideRefusal, pairRefusal, objectRefusal}
 use Rattle.sheet.specs.Lists.{listRefusal}
 use Rattle.sheet.specs.Cases.{line, ray, side, point, at}
 use Rattle.number.specs.Number.{groupsOf, bytesOf, valueOf, needless, readGroups}
-use Rattle.store.specs.Stored.{writeShape, writeObject, writeDrawing, writeRefusal, readCoordinate, readSide, readPoint, readTo, readPair, readShape, readObject, readObjects, readCount, readDrawing}
+use Rattle.store.specs.declared.Form.the-variants.{Old}
+use Rattle.store.specs.Forms.{writeMark, writeTag, readTag}
+use Rattle.store.specs.Stored.{writeShape, writeObject, writeDrawing, tagsRefusal, writeRefusal, readCoordinate, readSide, readPoint, readTo, readPair, readShape, readObject, readObjects, readForm, readCount, readHead, readDrawing}
 
 row-4 : Point
 row-4 = lastEnd (line (pos 0) (pos 1) (pos 2) (pos 2))
@@ -60,11 +62,11 @@ pub record WorkedRows : Type 0 where
       ≡ crossing.point (point (pos 1) (pos 0) (pos 1) (pos 0) (pos 1))
   -- 10. The 13 bytes above give their three objects and come back.
   ten : readDrawing row-bytes ≡ record { objects = row-objects; refusal = pos 0 }
-  ten-taken : writeRefusal row-objects ≡ pos 0
-  ten-back : writeDrawing row-objects ≡ row-bytes
+  ten-taken : writeRefusal Old row-objects ≡ pos 0
+  ten-back : writeDrawing Old row-objects ≡ row-bytes
 
 pub worked-rows : WorkedRows
-unfolding crossing.stretches crossing.withSide crossing.withStretch crossing.meeting crossing.crossingOf sgn steps gcd gcdOf sideOf figureOf divided farRaw farEnd firstEnd lastEnd row-4 order turnPoly turn row-bytes row-objects groupsOf bytesOf writeShape writeObject writeDrawing writeRefusal inTurn listRefusal valueOf needless readGroups readCoordinate readSide readPoint readTo readPair readShape readObject readObjects readCount readDrawing sideRefusal pairRefusal objectRefusal
+unfolding crossing.stretches crossing.withSide crossing.withStretch crossing.meeting crossing.crossingOf sgn steps gcd gcdOf sideOf figureOf divided farRaw farEnd firstEnd lastEnd row-4 order turnPoly turn row-bytes row-objects groupsOf bytesOf writeMark writeTag writeShape writeObject writeDrawing tagsRefusal writeRefusal inTurn listRefusal valueOf needless readGroups readCoordinate readSide readPoint readTo readPair readTag readShape readObject readObjects readForm readCount readHead readDrawing sideRefusal pairRefusal objectRefusal
 worked-rows = record {
   one = refl;
   two = refl;

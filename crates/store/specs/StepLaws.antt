@@ -2,7 +2,7 @@
 --   step-over, step-end      after the last object
 --   step-refused, step-one   an object's refusal, and an object
 --   first-call               the first of several calls
---   count-refused, count-taken   the first call, by the count
+--   head-refused, head-taken   the first call, by the form and the count
 -- Assumes nothing.
 use mathlib.Core.Path.{_≡_, refl, sym, ap, _∙_}
 use mathlib.Core.Bool.{Bool, true, false}
@@ -21,8 +21,9 @@ use Rattle.sheet.specs.AnswersLaws.{not-refused}
 use Rattle.sheet.specs.declared.Object.{Object}
 use Rattle.store.specs.declared.Bookmark.{Bookmark}
 use Rattle.store.specs.declared.Item.the-variants.{One, End, Refused}
-use Rattle.store.specs.Stored.{plain, readObject, readCount}
-use Rattle.store.specs.Reader.{restBegins, stepTo, stepObject, stepFrom, stepCounted, stepOf, callFrom}
+use Rattle.store.specs.declared.Form.{Form}
+use Rattle.store.specs.Stored.{Head, readObject, readHead}
+use Rattle.store.specs.Reader.{restBegins, stepTo, stepObject, stepFrom, stepHead, stepOf, callFrom}
 use Rattle.number.specs.ReadAs.{ReadAs}
 
 -- the rest from a place, or from the end where the place is past it
@@ -35,56 +36,56 @@ drop-min at bs = go (leb at (length bs)) (leb-true at (length bs)) (leb-false at
         let h = m refl in
         drop-of-length-le bs {i = min at (length bs)} (omega arith) ∙ sym (drop-of-length-le bs {i = at} (omega arith))
 
-module _ (bs : List ℕ) (p : Bookmark) (left at : ℕ) where
-  pub step-over : left ≡ 0 → at < length bs → stepFrom bs p left at ≡ stepTo (Refused (pos 9)) p
+module _ (bs : List ℕ) (p : Bookmark) (f : Form) (left at : ℕ) where
+  pub step-over : left ≡ 0 → at < length bs → stepFrom bs p f left at ≡ stepTo (Refused (pos 9)) p
   unfolding stepFrom
-  step-over e h = ap (λ (k : ℕ). stepFrom bs p k at) e ∙ simp (lt-ltb at (length bs) h)
+  step-over e h = ap (λ (k : ℕ). stepFrom bs p f k at) e ∙ simp (lt-ltb at (length bs) h)
 
-  pub step-end : left ≡ 0 → length bs ≤ at → stepFrom bs p left at ≡ stepTo End p
+  pub step-end : left ≡ 0 → length bs ≤ at → stepFrom bs p f left at ≡ stepTo End p
   unfolding stepFrom
-  step-end e h = ap (λ (k : ℕ). stepFrom bs p k at) e ∙ simp (le-ltb at (length bs) h)
+  step-end e h = ap (λ (k : ℕ). stepFrom bs p f k at) e ∙ simp (le-ltb at (length bs) h)
 
-  step-suc : 0 < left → stepFrom bs p left at ≡ stepObject bs p (left - 1) (readObject plain (drop at bs))
+  step-suc : 0 < left → stepFrom bs p f left at ≡ stepObject bs p f (left - 1) (readObject f (drop at bs))
   unfolding stepFrom
   step-suc h = go left h
     where
-      go : (left : ℕ) → 0 < left → stepFrom bs p left at ≡ stepObject bs p (left - 1) (readObject plain (drop at bs))
+      go : (left : ℕ) → 0 < left → stepFrom bs p f left at ≡ stepObject bs p f (left - 1) (readObject f (drop at bs))
       go zero h = absurd (omega arith)
-      go (suc k) h = let e : k ≡ suc k - 1 = omega arith in ap (λ (j : ℕ). stepObject bs p j (readObject plain (drop at bs))) e
+      go (suc k) h = let e : k ≡ suc k - 1 = omega arith in ap (λ (j : ℕ). stepObject bs p f j (readObject f (drop at bs))) e
 
   module _ {s : ℕ} {n : ℤ} {o : Object} {size : ℕ} (h : 0 < left) (e : s ≡ min at (length bs))
-      (t : ReadAs (drop s bs) (readObject plain (drop s bs)) n o size) (ok : mag n < 2 ^ 63) where
+      (t : ReadAs (drop s bs) (readObject f (drop s bs)) n o size) (ok : mag n < 2 ^ 63) where
     here : drop at bs ≡ drop s bs
     here = sym (drop-min at bs) ∙ ap (λ (k : ℕ). drop k bs) (sym e)
 
-    pub step-refused : (ofZ w64 n ≡ 0 → ⊥) → stepFrom bs p left at ≡ stepTo (Refused n) p
+    pub step-refused : (ofZ w64 n ≡ 0 → ⊥) → stepFrom bs p f left at ≡ stepTo (Refused n) p
     step-refused d =
         step-suc h
-        ∙ ap (λ (l : List ℕ). stepObject bs p (left - 1) (readObject plain l)) here
-        ∙ ap (stepObject bs p (left - 1)) (t .refused (eq-left {x = n} {y = pos 0} d))
+        ∙ ap (λ (l : List ℕ). stepObject bs p f (left - 1) (readObject f l)) here
+        ∙ ap (stepObject bs p f (left - 1)) (t .refused (eq-left {x = n} {y = pos 0} d))
 
-    pub step-one : ofZ w64 n ≡ 0 → stepFrom bs p left at ≡ stepTo (One o) (record { begun = true; left = left - 1; at = s + size })
+    pub step-one : ofZ w64 n ≡ 0 → stepFrom bs p f left at ≡ stepTo (One o) (record { begun = true; form = f; left = left - 1; at = s + size })
     step-one z =
         let place : restBegins bs (drop size (drop s bs)) ≡ s + size =
         omega (arith, length-drop size (drop s bs), length-drop s bs, t .within, e) in
         step-suc h
-        ∙ ap (λ (l : List ℕ). stepObject bs p (left - 1) (readObject plain l)) here
-        ∙ ap (stepObject bs p (left - 1)) (t .taken (not-refused ok refl z))
-        ∙ ap (λ (k : ℕ). stepTo (One o) (record { begun = true; left = left - 1; at = k })) place
+        ∙ ap (λ (l : List ℕ). stepObject bs p f (left - 1) (readObject f l)) here
+        ∙ ap (stepObject bs p f (left - 1)) (t .taken (not-refused ok refl z))
+        ∙ ap (λ (k : ℕ). stepTo (One o) (record { begun = true; form = f; left = left - 1; at = k })) place
 
 -- the first of several calls
 pub first-call : (bs : List ℕ) (p : Bookmark) → stepOf bs p .item ≡ callFrom bs p 0
 unfolding callFrom
 first-call bs p = refl
 
-module _ (bs : List ℕ) (p : Bookmark) {n : ℤ} {v size : ℕ} (t : ReadAs bs (readCount bs) n v size) (ok : mag n < 2 ^ 63) where
-  pub count-refused : p .begun ≡ false → (ofZ w64 n ≡ 0 → ⊥) → stepOf bs p ≡ stepTo (Refused n) p
+module _ (bs : List ℕ) (p : Bookmark) {n : ℤ} {h : Head} {size : ℕ} (t : ReadAs bs (readHead bs) n h size) (ok : mag n < 2 ^ 63) where
+  pub head-refused : p .begun ≡ false → (ofZ w64 n ≡ 0 → ⊥) → stepOf bs p ≡ stepTo (Refused n) p
   unfolding stepOf
-  count-refused b d = simp b (ap (stepCounted bs p) (t .refused (eq-left {x = n} {y = pos 0} d)))
+  head-refused b d = simp b (ap (stepHead bs p) (t .refused (eq-left {x = n} {y = pos 0} d)))
 
-  pub count-taken : p .begun ≡ false → ofZ w64 n ≡ 0 → stepOf bs p ≡ stepFrom bs p v size
+  pub head-taken : p .begun ≡ false → ofZ w64 n ≡ 0 → stepOf bs p ≡ stepFrom bs p (h .form) (h .count) size
   unfolding stepOf
-  count-taken b z =
+  head-taken b z =
       let place : restBegins bs (drop size bs) ≡ size = omega (arith, length-drop size bs, t .within) in
       simp b
-      (ap (stepCounted bs p) (t .taken (not-refused ok refl z)) ∙ ap (stepFrom bs p v) place)
+      (ap (stepHead bs p) (t .taken (not-refused ok refl z)) ∙ ap (stepFrom bs p (h .form) (h .count)) place)

@@ -1,10 +1,10 @@
--- "Stored drawing" of document 01: what is written for a list of objects, and what is read of bytes. Definitions alone; their laws are
--- in StoredLaws. Lists of objects are those of sheet/specs/Lists, and stored numbers those of number/specs/Number. Objects are stored over
--- a form; PlainLaws says that document 01's stores each coordinate as it is.
+-- "Stored drawing" of document 01, in the two forms of document 02 (R-3): what is written for a list of objects, what is read of bytes, and what
+-- bytes are moved to. What the forms differ in is in Forms; all else is said once, over the form. Definitions alone; their laws are in
+-- StoredLaws and MoveLaws. Lists of objects are those of sheet/specs/Lists, and stored numbers those of number/specs/Number.
 use mathlib.Core.Path.{_≡_}
 use mathlib.Core.Bool.{Bool, true, cond, _&&_}
 use mathlib.Core.List.{List, [], _∷_, _++_}
-use Prim.Native.Nat.{ℕ, zero, suc, _+_, _*_, _<_}
+use Prim.Native.Nat.{ℕ, zero, suc, _<_}
 use lib.Dec.{ltb, eqb}
 use lib.IntN.{ℤ, pos, natAbs, _+ℤ_, _-ℤ_}
 use Rattle.whole.specs.Flag.{eqZ}
@@ -17,31 +17,9 @@ use Rattle.sheet.specs.Refusal.{outside, beyond, equal}
 use Rattle.sheet.specs.Answers.{objectNumbers}
 use Rattle.sheet.specs.Lists.{countOf, objectAt, listRefusal}
 use Rattle.number.specs.Number.{writeNumber, zigzag, Reading, got, no, next, checked, readNumber, unzigzag}
-
--- the largest length of a stored drawing: the count in two bytes, and 512 objects, each with its kind in one and four coordinates in two
-abbrev pub longest : ℕ
-longest = 2 + most * 9
-
--- ---- how a form stores the points of an object
-
-pub record Form : Type 0 where
-  -- where a coordinate of q is counted from, by the same coordinate of p
-  pub origin : ℤ → ℤ
-
--- document 01's form: every coordinate is counted from 0
-abbrev pub plain : Form
-plain = record { origin = λ _. pos 0 }
-
--- where p is counted from, and where q is
-abbrev pub nought : Vec
-nought = vec (pos 0) (pos 0)
-
-abbrev pub originOf : Form → Vec → Vec
-originOf f p = vec (f .origin (p .x)) (f .origin (p .y))
-
--- "The stored form of document 01 has no place for" a tag (document 02): the one that its objects have
-abbrev pub untagged : ℤ
-untagged = pos 0
+use Rattle.store.specs.declared.Form.{Form}
+use Rattle.store.specs.declared.Form.the-variants.{Old, New}
+use Rattle.store.specs.Forms.{mark, writeMark, untagged, writeTag, readTag, originOf, nought}
 
 -- ---- writing
 
@@ -59,16 +37,18 @@ writePair f p q = writePoint nought p ++ writePoint (originOf f p) q
 unfoldable pub writeShape : Form → ℤ → ℤ → ℤ → ℤ → ℤ → List ℕ
 writeShape f kind px py qx qy = cond (eqZ kind (pos 4)) (writeNumber (natAbs px)) (writePair f (vec px py) (vec qx qy))
 
+-- "for each object kind, tag, px, py and the signed differences ..; a side has kind, tag, side number"
 unfoldable pub writeObject : Form → Object → List ℕ
-writeObject f o = writeNumber (natAbs (o .kind)) ++ writeShape f (o .kind) (o .px) (o .py) (o .qx) (o .qy)
+writeObject f o =
+    writeNumber (natAbs (o .kind)) ++ (writeTag f (o .tag) ++ writeShape f (o .kind) (o .px) (o .py) (o .qx) (o .qy))
 
 -- the first n objects of a list, one after another
 abbrev pub writeObjects : Form → ℕ → List ℤ → List ℕ
 writeObjects f n l = allOf (λ i. writeObject f (objectAt l i)) n
 
--- "First the count."
-unfoldable pub writeDrawing : List ℤ → List ℕ
-writeDrawing l = writeNumber (countOf l) ++ writeObjects plain (countOf l) l
+-- "First the count.", behind the mark of the form
+unfoldable pub writeDrawing : Form → List ℤ → List ℕ
+writeDrawing f l = writeMark f ++ (writeNumber (countOf l) ++ writeObjects f (countOf l) l)
 
 -- "tags that are all 0": of a list; and as a flag, of its first n objects
 pub record Untagged (l : List ℤ) : Type 0 where
@@ -77,57 +57,62 @@ pub record Untagged (l : List ℤ) : Type 0 where
 abbrev pub allUntagged : List ℤ → ℕ → Bool
 allUntagged l n = inTurn _&&_ true (λ i. eqZ (objectAt l i .tag) untagged) n
 
--- "16 a tag other than 0 written in the old form"
-abbrev pub tagsRefusal : List ℤ → ℤ
-tagsRefusal l = cond (allUntagged l (countOf l)) (pos 0) (pos 16)
+-- "16 a tag other than 0 written in the old form"; the new one has a place for every tag
+unfoldable pub tagsRefusal : Form → List ℤ → ℤ
+tagsRefusal Old l = cond (allUntagged l (countOf l)) (pos 0) (pos 16)
+tagsRefusal New l = pos 0
 
 -- what a list that is to be written is refused by: 16 "after all objects and before 10"
-unfoldable pub writeRefusal : List ℤ → ℤ
-writeRefusal l = orElse (listRefusal l) (tagsRefusal l)
+unfoldable pub writeRefusal : Form → List ℤ → ℤ
+writeRefusal f l = orElse (listRefusal l) (tagsRefusal f l)
 
 -- ---- reading
 
--- "2: a coordinate beyond 2,000 either way"
+-- "2: a coordinate beyond 2,000 either way"; "a q beyond 2,000 is 2, met at the difference that makes it"
 unfoldable pub readCoordinate : ℤ → List ℕ → Reading ℤ
 readCoordinate start bs = next (readNumber bs) (λ n rest. checked (beyond (start +ℤ unzigzag n)) (pos 2) (start +ℤ unzigzag n) rest)
 
--- an object by what is stored of it; of the tag, "reading gives 0"
-abbrev pub objectOf : ℤ → ℤ → ℤ → ℤ → ℤ → Object
-objectOf kind px py qx qy = record { kind = kind; px = px; py = py; qx = qx; qy = qy; tag = untagged }
+-- an object by what is stored of it: kind, tag, px, py, qx, qy
+abbrev pub objectOf : ℤ → ℤ → ℤ → ℤ → ℤ → ℤ → Object
+objectOf kind tag px py qx qy = record { kind = kind; px = px; py = py; qx = qx; qy = qy; tag = tag }
 
 -- "Kind 4, a whole frame side. px is its number .. The other three numbers are 0."
-abbrev pub sideObject : ℤ → Object
-sideObject n = objectOf (pos 4) n (pos 0) (pos 0) (pos 0)
+abbrev pub sideObject : ℤ → ℤ → Object
+sideObject tag n = objectOf (pos 4) tag n (pos 0) (pos 0) (pos 0)
 
 -- "4: side number not 1 to 4"
-unfoldable pub readSide : List ℕ → Reading Object
-readSide bs =
+unfoldable pub readSide : ℤ → List ℕ → Reading Object
+readSide tag bs =
     next (readNumber bs)
-    (λ n rest. checked (outside (pos 1) (pos 4) (pos n)) (pos 4) (sideObject (pos n)) rest)
+    (λ n rest. checked (outside (pos 1) (pos 4) (pos n)) (pos 4) (sideObject tag (pos n)) rest)
 
 unfoldable pub readPoint : Vec → List ℕ → Reading Vec
 readPoint start bs =
     next (readCoordinate (start .x) bs) (λ x rest. next (readCoordinate (start .y) rest) (λ y rest. got (vec x y) rest))
 
--- "p against q comes after qy"
-unfoldable pub readTo : Form → ℕ → Vec → List ℕ → Reading Object
-readTo f kind p bs =
+-- "p against q comes after qy"; "both differences 0 is 3"
+unfoldable pub readTo : Form → ℕ → ℤ → Vec → List ℕ → Reading Object
+readTo f kind tag p bs =
     next (readPoint (originOf f p) bs)
     (λ q rest. checked (equal (p .x) (p .y) (q .x) (q .y)) (pos 3)
-    (objectOf (pos kind) (p .x) (p .y) (q .x) (q .y)) rest)
+    (objectOf (pos kind) tag (p .x) (p .y) (q .x) (q .y)) rest)
 
-unfoldable pub readPair : Form → ℕ → List ℕ → Reading Object
-readPair f kind bs = next (readPoint nought bs) (λ p rest. readTo f kind p rest)
+unfoldable pub readPair : Form → ℕ → ℤ → List ℕ → Reading Object
+readPair f kind tag bs = next (readPoint nought bs) (λ p rest. readTo f kind tag p rest)
 
 -- "for kinds 1 to 3 px, py, qx, qy ..; for kind 4 the plain side number"
-unfoldable pub readShape : Form → ℕ → List ℕ → Reading Object
-readShape f kind bs = cond (eqb kind 4) (readSide bs) (readPair f kind bs)
+unfoldable pub readShape : Form → ℕ → ℤ → List ℕ → Reading Object
+readShape f kind tag bs = cond (eqb kind 4) (readSide tag bs) (readPair f kind tag bs)
+
+-- behind the kind: the tag, and then the shape
+abbrev pub readTagged : Form → ℕ → List ℕ → Reading Object
+readTagged f kind bs = next (readTag f bs) (λ tag rest. readShape f kind tag rest)
 
 -- "1: kind not 1 to 4"
 unfoldable pub readObject : Form → List ℕ → Reading Object
 readObject f bs =
     next (readNumber bs)
-    (λ kind rest. cond (outside (pos 1) (pos 4) (pos kind)) (no (pos 1)) (readShape f kind rest))
+    (λ kind rest. cond (outside (pos 1) (pos 4) (pos kind)) (no (pos 1)) (readTagged f kind rest))
 
 -- the objects read, and the refusal first met, 0 for none
 pub record Drawing : Type 0 where
@@ -150,13 +135,53 @@ readObjects f zero [] = refused (pos 0)
 readObjects f zero (b ∷ bs) = refused (pos 9)
 readObjects f (suc n) bs = andThen (readObject f bs) (λ rest. readObjects f n rest)
 
+-- "The reader takes either form": the mark is taken, and any other number is left to be the count
+unfoldable pub readForm : List ℕ → Reading Form
+readForm bs = next (readNumber bs) (λ n rest. cond (eqb n mark) (got New rest) (got Old bs))
+
 -- "11: more than 512 objects"
 unfoldable pub readCount : List ℕ → Reading ℕ
 readCount bs = next (readNumber bs) (λ n rest. checked (ltb most n) (pos 11) n rest)
 
-abbrev pub counted : Form → Reading ℕ → Drawing
-counted f (got n rest) = readObjects f n rest
-counted f (no n) = refused n
+-- what stands before the objects
+pub record Head : Type 0 where
+  pub form : Form
+  pub count : ℕ
+
+abbrev pub headOf : Form → ℕ → Head
+headOf f n = record { form = f; count = n }
+
+abbrev pub headIn : Form → List ℕ → Reading Head
+headIn f bs = next (readCount bs) (λ n rest. got (headOf f n) rest)
+
+unfoldable pub readHead : List ℕ → Reading Head
+readHead bs = next (readForm bs) (λ f rest. headIn f rest)
+
+abbrev pub counted : Reading Head → Drawing
+counted (got h rest) = readObjects (h .form) (h .count) rest
+counted (no n) = refused n
 
 unfoldable pub readDrawing : List ℕ → Drawing
-readDrawing bs = counted plain (readCount bs)
+readDrawing bs = counted (readHead bs)
+
+-- "an old reader", which knows document 01's form alone and takes the first number for the count
+unfoldable pub oldReader : List ℕ → Drawing
+oldReader bs = counted (headIn Old bs)
+
+-- the form that accepted bytes have; of others it says nothing
+abbrev pub formIn : Reading Head → Form
+formIn (got h rest) = h .form
+formIn (no n) = Old
+
+unfoldable pub formOf : List ℕ → Form
+formOf bs = formIn (readHead bs)
+
+-- ---- moving bytes to a form
+
+-- the bytes' own, then "16 for the move back"
+unfoldable pub moveRefusal : Form → List ℕ → ℤ
+moveRefusal f bs = orElse (readDrawing bs .refusal) (tagsRefusal f (readDrawing bs .objects))
+
+-- the objects that are read, written in the form
+unfoldable pub moved : Form → List ℕ → List ℕ
+moved f bs = writeDrawing f (readDrawing bs .objects)

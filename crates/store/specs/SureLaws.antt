@@ -1,8 +1,8 @@
 -- What each reading is: what was read has P and some bytes in front of the rest, or the refusal is one of stored bytes. To cite:
 --   Sure, Any       such a reading; P that holds of all
---   Plain           an accepted object of tag 0
+--   Kept, Fits      a tag that a form keeps; an accepted object with such a tag
 --   not-nought      such a refusal is not 0
---   sure-number, sure-coordinate, sure-point, sure-plain, sure-object, sure-count   each reading is so
+--   sure-number, sure-coordinate, sure-point, sure-fits, sure-object, sure-head   each reading is so
 -- Assumes nothing.
 use mathlib.Core.Path.{_≡_, refl, sym, ap, _∙_}
 use mathlib.Core.Bool.{Bool, true, false, cond, true≢false}
@@ -15,11 +15,14 @@ use lib.IntN.{ℤ, pos, _+ℤ_}
 use Rattle.whole.specs.Flag.{eqZ}
 use Rattle.sheet.specs.declared.Object.{Object}
 use Rattle.sheet.specs.Figure.{vec, Vec}
-use Rattle.sheet.specs.Limits.{most}
-use Rattle.sheet.specs.Refusal.{outside, beyond, equal, pairRefusal, sideRefusal, objectRefusal, Accepted}
+use Rattle.sheet.specs.Limits.{most, lastTag}
+use Rattle.sheet.specs.Refusal.{outside, beyond, equal, pairRefusal, sideRefusal, tagRefusal, objectRefusal, Accepted}
 use Rattle.sheet.specs.RefusalTable.{among}
 use Rattle.number.specs.Number.{Reading, got, no, next, checked, readNumber, unzigzag}
-use Rattle.store.specs.Stored.{Form, untagged, nought, originOf, readCoordinate, readPoint, readSide, readTo, readPair, readShape, readObject, readCount}
+use Rattle.store.specs.declared.Form.{Form}
+use Rattle.store.specs.declared.Form.the-variants.{Old, New}
+use Rattle.store.specs.Forms.{mark, untagged, readTag, nought, originOf}
+use Rattle.store.specs.Stored.{Head, headOf, readCoordinate, readPoint, readSide, readTo, readPair, readShape, readTagged, readObject, readForm, readCount, readHead}
 use Rattle.number.specs.NumberLaws.{Numbered, number, ends, wrong, number-is}
 use Rattle.store.specs.Refusals.{ofBytes}
 
@@ -79,44 +82,78 @@ sure-point start bs =
 
 -- ---- objects
 
-abbrev pub Plain : Object → Type 0
-Plain o = Accepted o × (o .tag ≡ untagged)
+-- a tag that a form keeps: the old one has a place for 0 alone
+pub data Kept : Form → ℤ → Type 0 where
+  kept-old : {t : ℤ} → t ≡ untagged → Kept Old t
+  kept-new : {t : ℤ} → Kept New t
 
-sure-side : (bs : List ℕ) → Sure Plain bs (readSide bs)
-unfolding readSide objectRefusal sideRefusal
-sure-side bs =
-    sure-next (sure-number bs)
-    (λ n rest u. sure-checked (outside (pos 1) (pos 4) (pos n)) 4 _ rest refl (λ e. (record { accepted = simp e }, refl)))
+abbrev pub Fits : Form → Object → Type 0
+Fits f o = Accepted o × Kept f (o .tag)
 
-module _ (f : Form) (kind : ℕ) (in-range : outside (pos 1) (pos 4) (pos kind) ≡ false) (other : eqb kind 4 ≡ false) where
-  sure-to : (p : Vec) (bs : List ℕ) → NotBeyond p → Sure Plain bs (readTo f kind p bs)
-  unfolding readTo objectRefusal pairRefusal
-  sure-to p bs h =
-      sure-next (sure-point (originOf f p) bs)
-      (λ q rest k. sure-checked (equal (p .x) (p .y) (q .x) (q .y)) 3 _ rest refl
-      (λ e. (record { accepted = simp (in-range, other, h .0, h .1, k .0, k .1, e) }, refl)))
+-- it is not refused, and the form keeps it
+abbrev TagFits : Form → ℤ → Type 0
+TagFits f t = (tagRefusal t ≡ pos 0) × Kept f t
 
-  sure-pair : (bs : List ℕ) → Sure Plain bs (readPair f kind bs)
-  unfolding readPair
-  sure-pair bs = sure-next (sure-point nought bs) (λ p rest h. sure-to p rest h)
+sure-tag : (f : Form) (bs : List ℕ) → Sure (TagFits f) bs (readTag f bs)
+unfolding readTag
+sure-tag Old bs = read untagged [] bs refl (refl, kept-old refl)
+sure-tag New bs =
+    sure-next (sure-number bs) (λ n rest u. sure-checked (outside (pos 0) lastTag (pos n)) 15 _ rest refl (λ e. (simp e, kept-new)))
 
-sure-shape : (f : Form) (kind : ℕ) (bs : List ℕ) → outside (pos 1) (pos 4) (pos kind) ≡ false → Sure Plain bs (readShape f kind bs)
-unfolding readShape
-sure-shape f kind bs e = sure-cond (eqb kind 4) (sure-side bs) (λ z. sure-pair f kind e z bs)
+module _ (f : Form) (tag : ℤ) (fine : TagFits f tag) where
+  sure-side : (bs : List ℕ) → Sure (Fits f) bs (readSide tag bs)
+  unfolding readSide objectRefusal sideRefusal
+  sure-side bs =
+      sure-next (sure-number bs)
+      (λ n rest u. sure-checked (outside (pos 1) (pos 4) (pos n)) 4 _ rest refl (λ e. (record { accepted = simp (e, fine .0) }, fine .1)))
 
-pub sure-plain : (f : Form) (bs : List ℕ) → Sure Plain bs (readObject f bs)
+  module _ (kind : ℕ) (in-range : outside (pos 1) (pos 4) (pos kind) ≡ false) (other : eqb kind 4 ≡ false) where
+    sure-to : (p : Vec) (bs : List ℕ) → NotBeyond p → Sure (Fits f) bs (readTo f kind tag p bs)
+    unfolding readTo objectRefusal pairRefusal
+    sure-to p bs h =
+        sure-next (sure-point (originOf f p) bs)
+        (λ q rest k. sure-checked (equal (p .x) (p .y) (q .x) (q .y)) 3 _ rest refl
+        (λ e. (record { accepted = simp (in-range, other, h .0, h .1, k .0, k .1, e, fine .0) }, fine .1)))
+
+    sure-pair : (bs : List ℕ) → Sure (Fits f) bs (readPair f kind tag bs)
+    unfolding readPair
+    sure-pair bs = sure-next (sure-point nought bs) (λ p rest h. sure-to p rest h)
+
+  sure-shape : (kind : ℕ) (bs : List ℕ) → outside (pos 1) (pos 4) (pos kind) ≡ false → Sure (Fits f) bs (readShape f kind tag bs)
+  unfolding readShape
+  sure-shape kind bs e = sure-cond (eqb kind 4) (sure-side bs) (λ z. sure-pair kind e z bs)
+
+sure-tagged : (f : Form) (kind : ℕ) (bs : List ℕ) → outside (pos 1) (pos 4) (pos kind) ≡ false → Sure (Fits f) bs (readTagged f kind bs)
+sure-tagged f kind bs e = sure-next (sure-tag f bs) (λ tag rest fine. sure-shape f tag fine kind rest e)
+
+pub sure-fits : (f : Form) (bs : List ℕ) → Sure (Fits f) bs (readObject f bs)
 unfolding readObject
-sure-plain f bs =
+sure-fits f bs =
     sure-next (sure-number bs)
-    (λ kind rest u. sure-cond (outside (pos 1) (pos 4) (pos kind)) (refused 1 refl) (λ e. sure-shape f kind rest e))
+    (λ kind rest u. sure-cond (outside (pos 1) (pos 4) (pos kind)) (refused 1 refl) (λ e. sure-tagged f kind rest e))
 
 pub sure-object : (f : Form) (bs : List ℕ) → Sure Accepted bs (readObject f bs)
-sure-object f bs = go (sure-plain f bs)
+sure-object f bs = go (sure-fits f bs)
   where
-    go : {r : Reading Object} → Sure Plain bs r → Sure Accepted bs r
+    go : {r : Reading Object} → Sure (Fits f) bs r → Sure Accepted bs r
     go (read o front rest e k) = read o front rest e (k .0)
     go (refused n z) = refused n z
 
-pub sure-count : (bs : List ℕ) → Sure (λ n. n ≤ most) bs (readCount bs)
+-- ---- what stands before the objects
+
+sure-form : (bs : List ℕ) → Sure Any bs (readForm bs)
+unfolding readForm
+sure-form bs = go (sure-number bs)
+  where
+    go : {r : Reading ℕ} → Sure Any bs r → Sure Any bs (next r (λ n rest. cond (eqb n mark) (got New rest) (got Old bs)))
+    go (refused n z) = refused n z
+    go (read n front rest e u) = sure-cond (eqb n mark) (read New front rest e tt) (λ _. read Old [] bs refl tt)
+
+sure-count : (bs : List ℕ) → Sure (λ n. n ≤ most) bs (readCount bs)
 unfolding readCount
 sure-count bs = sure-next (sure-number bs) (λ n rest u. sure-checked (ltb most n) 11 _ rest refl (λ e. ltb-false most n e))
+
+pub sure-head : (bs : List ℕ) → Sure (λ h. h .count ≤ most) bs (readHead bs)
+unfolding readHead
+sure-head bs =
+    sure-next (sure-form bs) (λ f rest u. sure-next (sure-count rest) (λ n rest few. read (headOf f n) [] rest refl few))

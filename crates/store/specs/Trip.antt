@@ -1,8 +1,8 @@
 -- Coordinates and points, counted from a start, written and read again, and back. To cite:
---   back, stored-small   from a start and back; what is stored for a coordinate is small
+--   back, near-within, stored-small   from a start and back; a coordinate, and what is stored for one, is small
 --   coordinate-back, coordinate-from   a coordinate
 --   InReach, point-back, point-from       a point, and that it is within the limits
---   Sound, plain-sound, near-nought, near-origin   a form in which q is counted from within the limits, and document 01's is so
+--   near-nought, near-origin   p and q are counted from within the limits
 -- Assumes nothing.
 use mathlib.Core.Path.{_≡_, refl, sym, ap, _∙_}
 use mathlib.Core.Bool.{false}
@@ -20,7 +20,10 @@ use Rattle.sheet.specs.Flags.{flags}
 use Rattle.number.specs.Number.{writeNumber, zigzag, Reading, got, next, checked, unzigzag, Bytes}
 use Rattle.number.specs.TripLaws.{behind-bytes, From, from, not, from-checked, number-back, number-from}
 use Rattle.number.specs.ZigzagLaws.{unzigzag-zigzag, zigzag-unzigzag, zigzag-small}
-use Rattle.store.specs.Stored.{Form, plain, nought, originOf, writeCoordinate, writePoint, readCoordinate, readPoint}
+use Rattle.store.specs.declared.Form.{Form}
+use Rattle.store.specs.Forms.{nought, originOf}
+use Rattle.store.specs.Stored.{writeCoordinate, writePoint, readCoordinate, readPoint}
+use Rattle.store.specs.FormsLaws.{origin-near}
 
 there : (start z : ℤ) → start +ℤ (z -ℤ start) ≡ z
 there start z = reify (start ∷ z ∷ []) (λ ρ v. simp (reading, v 0, v 1) (solve _ _ _ tt))
@@ -28,7 +31,7 @@ there start z = reify (start ∷ z ∷ []) (λ ρ v. simp (reading, v 0, v 1) (s
 pub back : (start d : ℤ) → start +ℤ d -ℤ start ≡ d
 back start d = reify (start ∷ d ∷ []) (λ ρ v. simp (reading, v 0, v 1) (solve _ _ _ tt))
 
-near-within : (z : ℤ) → beyond z ≡ false → Within reachSize z
+pub near-within : (z : ℤ) → beyond z ≡ false → Within reachSize z
 near-within z e = let f = simp flags at e in w-intro (f .0) (f .1)
 
 -- the difference of two coordinates, as it is stored
@@ -88,17 +91,10 @@ point-from start bs h = go (coordinate-from (start .x) bs h)
     go (not n) = not n
     go (from x rest e) = second x rest e (coordinate-from (start .y) rest (behind-bytes (writeCoordinate (start .x) x) e h))
 
--- ---- forms
-
--- a form in which q's coordinates are counted from within the limits, where p is within them
-pub record Sound (f : Form) : Type 0 where
-  pub near : (z : ℤ) → beyond z ≡ false → beyond (f .origin z) ≡ false
-
-pub plain-sound : Sound plain
-plain-sound = record { near = λ z h. refl }
+-- ---- where points are counted from
 
 pub near-nought : InReach nought
 near-nought = record { in-x = refl; in-y = refl }
 
-pub near-origin : {f : Form} → Sound f → {p : Vec} → InReach p → InReach (originOf f p)
-near-origin s {p} h = record { in-x = s .near (p .x) (h .in-x); in-y = s .near (p .y) (h .in-y) }
+pub near-origin : (f : Form) {p : Vec} → InReach p → InReach (originOf f p)
+near-origin f {p} h = record { in-x = origin-near f (p .x) (h .in-x); in-y = origin-near f (p .y) (h .in-y) }

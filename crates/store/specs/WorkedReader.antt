@@ -6,12 +6,15 @@ use mathlib.Core.List.{List, [], _∷_, map}
 use Prim.Native.Nat.{ℕ}
 use lib.IntN.{pos}
 use Rattle.sheet.specs.Cases.{side}
+use Rattle.sheet.specs.Tags.{tagged}
+use Rattle.store.specs.declared.Form.the-variants.{Old, New}
 use Rattle.store.specs.declared.Bookmark.{Bookmark}
 use Rattle.store.specs.declared.Item.{Item}
 use Rattle.store.specs.declared.Item.the-variants.{One, End, Refused}
 use Rattle.number.specs.Number.{valueOf, needless, readGroups}
-use Rattle.store.specs.Stored.{readCoordinate, readSide, readPoint, readTo, readPair, readShape, readObject, readObjects, readCount, readDrawing}
-use Rattle.store.specs.Reader.{startPlace, stepFrom, stepOf, callFrom, itemOf, itemSays}
+use Rattle.store.specs.Forms.{readTag}
+use Rattle.store.specs.Stored.{readCoordinate, readSide, readPoint, readTo, readPair, readShape, readObject, readObjects, readForm, readCount, readHead, readDrawing}
+use Rattle.store.specs.Reader.{startPlace, stepTo, stepFrom, stepOf, callFrom, itemOf, itemSays}
 
 -- what the first four calls give
 abbrev fourCalls : List ℕ → List Item
@@ -21,8 +24,11 @@ fourCalls bytes = map (callFrom bytes startPlace) (0 ∷ 1 ∷ 2 ∷ 3 ∷ [])
 abbrev twoSides : List ℕ
 twoSides = 2 ∷ 4 ∷ 1 ∷ 4 ∷ 2 ∷ []
 
+abbrev newSides : List ℕ
+newSides = 232 ∷ 7 ∷ 2 ∷ 4 ∷ 0 ∷ 1 ∷ 4 ∷ 7 ∷ 2 ∷ []
+
 abbrev afterBoth : Bookmark
-afterBoth = record { begun = true; left = 0; at = 5 }
+afterBoth = record { begun = true; form = Old; left = 0; at = 5 }
 
 pub record WorkedReader : Type 0 where
   -- "gives one object per call. Opening it never refuses; its first call also reads the count. After the last it says end"
@@ -38,9 +44,18 @@ pub record WorkedReader : Type 0 where
   no-count : fourCalls [] ≡ Refused (pos 7) ∷ Refused (pos 7) ∷ Refused (pos 7) ∷ Refused (pos 7) ∷ []
   too-large-a-count : fourCalls (129 ∷ 4 ∷ []) ≡ Refused (pos 11) ∷ Refused (pos 11) ∷ Refused (pos 11) ∷ Refused (pos 11) ∷ []
   places :
-      (stepOf twoSides startPlace .place ≡ record { begun = true; left = 1; at = 3 })
-      × (stepOf twoSides (record { begun = true; left = 1; at = 3 }) .place ≡ afterBoth) × (stepOf twoSides afterBoth .place ≡ afterBoth)
+      (stepOf twoSides startPlace .place ≡ record { begun = true; form = Old; left = 1; at = 3 })
+      × (stepOf twoSides (record { begun = true; form = Old; left = 1; at = 3 }) .place ≡ afterBoth) × (stepOf twoSides afterBoth .place ≡ afterBoth)
   place-kept : (stepOf [] startPlace .place ≡ startPlace) × (stepOf (0 ∷ []) startPlace .place ≡ startPlace)
+  -- "The reader takes either form": sides 1 and 2 of tags 0 and 7 in the new form; at a refusal in it, and where the head ends, the place is kept
+  new-form :
+      (fourCalls newSides ≡ One (side (pos 1)) ∷ One (tagged (pos 7) (side (pos 2))) ∷ End ∷ End ∷ [])
+      × (fourCalls (232 ∷ 7 ∷ 2 ∷ 4 ∷ 0 ∷ 1 ∷ 4 ∷ 7 ∷ 5 ∷ []) ≡ One (side (pos 1)) ∷ Refused (pos 4) ∷ Refused (pos 4) ∷ Refused (pos 4) ∷ [])
+      × (fourCalls (232 ∷ 7 ∷ []) ≡ Refused (pos 7) ∷ Refused (pos 7) ∷ Refused (pos 7) ∷ Refused (pos 7) ∷ [])
+  new-places :
+      (stepOf newSides startPlace .place ≡ record { begun = true; form = New; left = 1; at = 6 })
+      × (stepOf (232 ∷ 7 ∷ 1 ∷ 9 ∷ []) startPlace .place ≡ startPlace)
+      × (stepOf newSides (record { begun = true; form = New; left = 0; at = 8 }) ≡ stepTo (Refused (pos 9)) (record { begun = true; form = New; left = 0; at = 8 }))
   -- a drawing's objects in order, then its end or its refusal
   items :
       (map (itemOf (readDrawing twoSides)) (0 ∷ 1 ∷ 2 ∷ 3 ∷ []) ≡ One (side (pos 1)) ∷ One (side (pos 2)) ∷ End ∷ End ∷ [])
@@ -51,7 +66,7 @@ pub record WorkedReader : Type 0 where
       × (itemSays (Refused (pos 9)) ≡ pos 9 ∷ [])
 
 pub worked-reader : WorkedReader
-unfolding valueOf needless readGroups readCoordinate readSide readPoint readTo readPair readShape readObject readObjects readCount readDrawing stepFrom stepOf callFrom itemOf
+unfolding valueOf needless readGroups readCoordinate readSide readPoint readTo readPair readTag readShape readObject readObjects readForm readCount readHead readDrawing stepFrom stepOf callFrom itemOf
 worked-reader = record {
   one-a-call = refl;
   none-at-all = refl;
@@ -62,6 +77,8 @@ worked-reader = record {
   too-large-a-count = refl;
   places = (refl, refl, refl);
   place-kept = (refl, refl);
+  new-form = (refl, refl, refl);
+  new-places = (refl, refl, refl);
   items = (refl, refl);
   said = (refl, refl, refl);
 }

@@ -1,5 +1,5 @@
--- Stored objects and drawings, worked out byte by byte by the documents' rules, with the refusal first met where two or more would
--- do. A definition that says something else is refused here, whatever the code does.
+-- Stored objects and drawings of document 01's form, worked out byte by byte by the documents' rules, with the refusal first met where two or
+-- more would do. A definition that says something else is refused here, whatever the code does.
 use mathlib.Core.Path.{_≡_, refl}
 use mathlib.Core.List.{List, [], _∷_, _++_}
 use Prim.Native.Nat.{ℕ}
@@ -12,7 +12,9 @@ use Rattle.sheet.specs.Lists.{listRefusal}
 use Rattle.sheet.specs.Tags.{tagged}
 use Rattle.sheet.specs.Cases.{minus, object, segment, ray, side}
 use Rattle.number.specs.Number.{got, groupsOf, bytesOf, valueOf, needless, readGroups}
-use Rattle.store.specs.Stored.{plain, writeShape, writeObject, writeDrawing, writeRefusal, readCoordinate, readSide, readPoint, readTo, readPair, readShape, readObject, readObjects, readCount, readDrawing}
+use Rattle.store.specs.declared.Form.the-variants.{Old}
+use Rattle.store.specs.Forms.{writeMark, writeTag, readTag}
+use Rattle.store.specs.Stored.{writeShape, writeObject, writeDrawing, tagsRefusal, writeRefusal, readCoordinate, readSide, readPoint, readTo, readPair, readShape, readObject, readObjects, readForm, readCount, readHead, readDrawing}
 use Rattle.store.specs.Answers.{readAnswer, readInto, writeAnswer, writeInto}
 
 -- the refusal of some bytes, and that of one object's bytes
@@ -45,13 +47,13 @@ abbrev noTag : List ℤ
 noTag = objectNumbers (tagged (pos 2000001) (side (pos 1)))
 
 pub record WorkedStored : Type 0 where
-  -- "First the count. Then each object: kind; for kinds 1 to 3 px, py, qx, qy ..; for kind 4 the plain side number."
+  -- "First the count. Then each object: kind; for kinds 1 to 3 px, py, qx, qy ..; for kind 4 the Old side number."
   object-bytes :
-      (writeObject plain (segment (pos 1) (minus 2) (pos 3) (pos 100)) ≡ 1 ∷ 2 ∷ 3 ∷ 6 ∷ 200 ∷ 1 ∷ [])
-      × (writeObject plain (ray (pos 0) (pos 0) (minus 1) (pos 1)) ≡ 2 ∷ 0 ∷ 0 ∷ 1 ∷ 2 ∷ []) × (writeObject plain (side (pos 3)) ≡ 4 ∷ 3 ∷ [])
+      (writeObject Old (segment (pos 1) (minus 2) (pos 3) (pos 100)) ≡ 1 ∷ 2 ∷ 3 ∷ 6 ∷ 200 ∷ 1 ∷ [])
+      × (writeObject Old (ray (pos 0) (pos 0) (minus 1) (pos 1)) ≡ 2 ∷ 0 ∷ 0 ∷ 1 ∷ 2 ∷ []) × (writeObject Old (side (pos 3)) ≡ 4 ∷ 3 ∷ [])
   object-read :
-      readObject plain (1 ∷ 2 ∷ 3 ∷ 6 ∷ 200 ∷ 1 ∷ 9 ∷ []) ≡ got (segment (pos 1) (minus 2) (pos 3) (pos 100)) (9 ∷ [])
-  count-first : (writeDrawing theirNumbers ≡ twoSides) × (readDrawing twoSides ≡ record { objects = theirNumbers; refusal = pos 0 })
+      readObject Old (1 ∷ 2 ∷ 3 ∷ 6 ∷ 200 ∷ 1 ∷ 9 ∷ []) ≡ got (segment (pos 1) (minus 2) (pos 3) (pos 100)) (9 ∷ [])
+  count-first : (writeDrawing Old theirNumbers ≡ twoSides) × (readDrawing twoSides ≡ record { objects = theirNumbers; refusal = pos 0 })
   -- "7: stored bytes end where a number must begin or go on"
   bytes-end : (refusal [] ≡ pos 7) × (refusal (128 ∷ []) ≡ pos 7) × (ofOne [] ≡ pos 7) × (ofOne (4 ∷ []) ≡ pos 7) × (ofOne (1 ∷ 0 ∷ 0 ∷ 0 ∷ []) ≡ pos 7)
   -- "8": "A last group equal to 0 after the first group, or a third byte with its top bit set" (at once, before any 7)
@@ -96,23 +98,23 @@ pub record WorkedStored : Type 0 where
   read-cells :
       (readInto (readDrawing twoSides) (lent 14) ≡ theirNumbers ++ lent 2) × (readInto (readDrawing twoSides) (lent 11) ≡ lent 11)
       × (readInto (readDrawing (twoSides ++ (0 ∷ []))) (lent 14) ≡ lent 14)
-  written-taken : writeAnswer theirNumbers (lentBytes 5) ≡ record { refusal = pos 0; length = 5 }
-  written-no-room : writeAnswer theirNumbers (lentBytes 4) ≡ record { refusal = pos 10; length = 5 }
+  written-taken : writeAnswer Old theirNumbers (lentBytes 5) ≡ record { refusal = pos 0; length = 5 }
+  written-no-room : writeAnswer Old theirNumbers (lentBytes 4) ≡ record { refusal = pos 10; length = 5 }
   list-before-ten :
-      (writeAnswer (theirNumbers ++ lent 1) (lentBytes 0) ≡ record { refusal = pos 14; length = 0 })
-      × (writeAnswer (objectNumbers (object (pos 9) (pos 0) (pos 0) (pos 0) (pos 0))) (lentBytes 0) ≡ record { refusal = pos 1; length = 0 })
+      (writeAnswer Old (theirNumbers ++ lent 1) (lentBytes 0) ≡ record { refusal = pos 14; length = 0 })
+      × (writeAnswer Old (objectNumbers (object (pos 9) (pos 0) (pos 0) (pos 0) (pos 0))) (lentBytes 0) ≡ record { refusal = pos 1; length = 0 })
   -- "16 a tag other than 0 written in the old form, after all objects and before 10"
-  tag-not-written : (writeAnswer oneTagged (lentBytes 5) ≡ record { refusal = pos 16; length = 0 }) × (writeInto oneTagged (lentBytes 7) ≡ lentBytes 7)
-  sixteen-before-ten : writeAnswer oneTagged (lentBytes 0) ≡ record { refusal = pos 16; length = 0 }
+  tag-not-written : (writeAnswer Old oneTagged (lentBytes 5) ≡ record { refusal = pos 16; length = 0 }) × (writeInto Old oneTagged (lentBytes 7) ≡ lentBytes 7)
+  sixteen-before-ten : writeAnswer Old oneTagged (lentBytes 0) ≡ record { refusal = pos 16; length = 0 }
   sixteen-after-all-objects :
-      (writeRefusal (oneTagged ++ noTag) ≡ pos 15) × (writeRefusal (oneTagged ++ objectNumbers (object (pos 9) (pos 0) (pos 0) (pos 0) (pos 0))) ≡ pos 1)
-      × (writeRefusal (oneTagged ++ lent 1) ≡ pos 14) × (writeRefusal oneTagged ≡ pos 16) × (writeRefusal theirNumbers ≡ pos 0)
+      (writeRefusal Old (oneTagged ++ noTag) ≡ pos 15) × (writeRefusal Old (oneTagged ++ objectNumbers (object (pos 9) (pos 0) (pos 0) (pos 0) (pos 0))) ≡ pos 1)
+      × (writeRefusal Old (oneTagged ++ lent 1) ≡ pos 14) × (writeRefusal Old oneTagged ≡ pos 16) × (writeRefusal Old theirNumbers ≡ pos 0)
   written-bytes :
-      (writeInto theirNumbers (lentBytes 7) ≡ twoSides ++ lentBytes 2) × (writeInto theirNumbers (lentBytes 4) ≡ lentBytes 4)
-      × (writeInto (theirNumbers ++ lent 1) (lentBytes 7) ≡ lentBytes 7)
+      (writeInto Old theirNumbers (lentBytes 7) ≡ twoSides ++ lentBytes 2) × (writeInto Old theirNumbers (lentBytes 4) ≡ lentBytes 4)
+      × (writeInto Old (theirNumbers ++ lent 1) (lentBytes 7) ≡ lentBytes 7)
 
 pub worked-stored : WorkedStored
-unfolding sideRefusal pairRefusal objectRefusal inTurn listRefusal groupsOf bytesOf writeShape writeObject writeDrawing writeRefusal valueOf needless readGroups readCoordinate readSide readPoint readTo readPair readShape readObject readObjects readCount readDrawing readAnswer readInto writeAnswer writeInto
+unfolding sideRefusal pairRefusal objectRefusal inTurn listRefusal groupsOf bytesOf writeMark writeTag writeShape writeObject writeDrawing tagsRefusal writeRefusal valueOf needless readGroups readCoordinate readSide readPoint readTo readPair readTag readShape readObject readObjects readForm readCount readHead readDrawing readAnswer readInto writeAnswer writeInto
 worked-stored = record {
   object-bytes = (refl, refl, refl);
   object-read = refl;

@@ -1,5 +1,6 @@
-// Stored drawings: a list of objects as bytes, and back. The definitions are in specs/Stored.antt.
-use reading::read_count;
+// Stored drawings: a list of objects as bytes in either of two forms, back, and from form to form. The definitions are in specs/Forms.antt and
+// specs/Stored.antt.
+use reading::read_head;
 use reading::read_object;
 use reading::read_objects;
 use sheet::Object;
@@ -9,18 +10,51 @@ use writing::write_all;
 use writing::write_refusal;
 ghost use mathlib.Core.Path.{_≡_};
 ghost use Prim.Native.Nat.{min};
+ghost use Rattle.store.specs.Forms.{origin, longestOf};
 ghost use Rattle.store.specs.Stored.{readDrawing};
 ghost use Rattle.store.specs.Reader.{startPlace, stepFrom, stepOf, takenOf};
-ghost use Rattle.store.specs.Answers.{readAnswer, readInto, writeAnswer, writeInto};
+ghost use Rattle.store.specs.Answers.{readAnswer, readInto, writeAnswer, writeInto, moveAnswer, moveInto, formedSays, formAnswer};
 
-mod reading; // reading.rt: points, objects and counts that bytes begin with
+mod reading; // reading.rt: points, objects and openings that bytes begin with
 mod writing; // writing.rt: the bytes of points and objects
 
-// The largest length of a drawing: the count in two bytes, and each object with its kind in one and four coordinates in two. Lent bytes that
-// are as many have room for every one.
-pub const LONGEST: usize = 2 + Object::MOST * 9;
-// The tag of every object of a drawing: document 01's form has no place for another.
+// The forms of a stored drawing: document 01's, and the shorter one of document 02, with tags, and with q by its differences from p.
+pub enum Form {
+    Old,
+    New,
+}
+
+// The number that the new form starts with. No old drawing has it as its count.
+const MARK: u64 = 1000;
+// The tag of every object of an old drawing, which has no place for another.
 const UNTAGGED: i64 = 0;
+// The largest length of an old drawing: the count in two bytes, and each object with its kind in one and four coordinates in two.
+const OLD_LONGEST: usize = 2 + Object::MOST * 9;
+// The largest length of a new drawing, and so of any: two bytes more for the mark, and three for each tag. Lent bytes that are as many have room
+// for every drawing.
+pub const LONGEST: usize = 4 + Object::MOST * 12;
+// The numbers of the most objects.
+const NUMBERS: usize = Object::MOST * Object::WIDTH;
+
+// Where a coordinate of q is counted from: from 0 in the old form, and in the new one from the same coordinate of p.
+fn origin(form: Form, z: i64) -> i64
+    ensures { λ r. ⌜ r ≡ origin form z ⌝ }
+{
+    match form {
+        Form::Old => 0,
+        Form::New => z,
+    }
+}
+
+// The largest length of a drawing of a form.
+fn longest_of(form: Form) -> usize
+    ensures { λ r. ⌜ r ≡ longestOf form ⌝ }
+{
+    match form {
+        Form::Old => OLD_LONGEST,
+        Form::New => LONGEST,
+    }
+}
 
 // What reading a drawing into a lent list answers.
 pub struct Read {
@@ -39,14 +73,34 @@ pub struct Written {
 pub fn check_drawing(bytes: &[u8]) -> i64
     ensures { λ r. ⌜ r ≡ readDrawing (now (bytes .entry)) .refusal ⌝ }
 {
-    let read = read_count(bytes);
-    let no = read.refusal;
+    let head = read_head(bytes);
+    let no = head.refusal;
     if no != 0 {
         return no;
     }
-    let after = read.size;
+    let form = head.form;
+    let after = head.size;
     let mut nowhere = [0; 0];
-    read_objects(read.value, &bytes[after..], &mut nowhere)
+    read_objects(form, head.count, &bytes[after..], &mut nowhere)
+}
+
+// What is told of a drawing's form: the form, or the number of the refusal.
+pub enum Formed {
+    Has(Form),
+    Refused(i64),
+}
+
+// The form that accepted bytes have; of others, what reading them meets first.
+pub fn form_of(bytes: &[u8]) -> Formed
+    ensures { λ r. ⌜ formedSays r ≡ formAnswer (now (bytes .entry)) ⌝ }
+{
+    let no = check_drawing(bytes);
+    if no != 0 {
+        return Formed::Refused(no);
+    }
+    let head = read_head(bytes);
+    let form = head.form;
+    Formed::Has(form)
 }
 
 // The objects of a drawing, in order, at the front of a lent list: six numbers each.
@@ -54,8 +108,8 @@ pub fn read_drawing(bytes: &[u8], out: &mut [i64]) -> Read
     ensures answer { λ r. ⌜ r ≡ readAnswer (readDrawing (now (bytes .entry))) (now (out .entry)) ⌝ }
     ensures cells { λ r. ⌜ now (out .exit) ≡ readInto (readDrawing (now (bytes .entry))) (now (out .entry)) ⌝ }
 {
-    let read = read_count(bytes);
-    let no = read.refusal;
+    let head = read_head(bytes);
+    let no = head.refusal;
     if no != 0 {
         return Read {
             refusal: no,
@@ -63,10 +117,11 @@ pub fn read_drawing(bytes: &[u8], out: &mut [i64]) -> Read
             length: 0,
         };
     }
-    let count = read.value;
-    let after = read.size;
+    let form = head.form;
+    let count = head.count;
+    let after = head.size;
     let mut nowhere = [0; 0];
-    let wrong = read_objects(count, &bytes[after..], &mut nowhere);
+    let wrong = read_objects(form, count, &bytes[after..], &mut nowhere);
     if wrong != 0 {
         return Read {
             refusal: wrong,
@@ -82,7 +137,7 @@ pub fn read_drawing(bytes: &[u8], out: &mut [i64]) -> Read
             length,
         };
     }
-    read_objects(count, &bytes[after..], out);
+    read_objects(form, count, &bytes[after..], out);
     Read {
         refusal: 0,
         count: count as usize,
@@ -90,18 +145,18 @@ pub fn read_drawing(bytes: &[u8], out: &mut [i64]) -> Read
     }
 }
 
-// A list of objects as a drawing, at the front of lent bytes.
-pub fn write_drawing(list: &[i64], out: &mut [u8]) -> Written
-    ensures answer { λ r. ⌜ r ≡ writeAnswer (now (list .entry)) (now (out .entry)) ⌝ }
-    ensures cells { λ r. ⌜ now (out .exit) ≡ writeInto (now (list .entry)) (now (out .entry)) ⌝ }
+// A list of objects as a drawing of a form, at the front of lent bytes.
+pub fn write_drawing(form: Form, list: &[i64], out: &mut [u8]) -> Written
+    ensures answer { λ r. ⌜ r ≡ writeAnswer form (now (list .entry)) (now (out .entry)) ⌝ }
+    ensures cells { λ r. ⌜ now (out .exit) ≡ writeInto form (now (list .entry)) (now (out .entry)) ⌝ }
 {
-    let refusal = write_refusal(list);
+    let refusal = write_refusal(form, list);
     if refusal != 0 {
         return Written { refusal, length: 0 };
     }
-    if out.len() < LONGEST {
+    if out.len() < longest_of(form) {
         let mut nowhere = [0; 0];
-        let needed = write_all(list, &mut nowhere);
+        let needed = write_all(form, list, &mut nowhere);
         if out.len() < needed {
             return Written {
                 refusal: NO_ROOM,
@@ -109,8 +164,27 @@ pub fn write_drawing(list: &[i64], out: &mut [u8]) -> Written
             };
         }
     }
-    let length = write_all(list, out);
+    let length = write_all(form, list, out);
     Written { refusal: 0, length }
+}
+
+// A drawing of either form as a drawing of the form that is asked for, at the front of lent bytes: it is read into a list, which has room for
+// every drawing, and written.
+pub fn move_drawing(bytes: &[u8], form: Form, out: &mut [u8]) -> Written
+    ensures answer { λ r. ⌜ r ≡ moveAnswer form (now (bytes .entry)) (now (out .entry)) ⌝ }
+    ensures cells { λ r. ⌜ now (out .exit) ≡ moveInto form (now (bytes .entry)) (now (out .entry)) ⌝ }
+{
+    let mut list = [0; NUMBERS];
+    let read = read_drawing(bytes, &mut list);
+    let no = read.refusal;
+    if no != 0 {
+        return Written {
+            refusal: no,
+            length: 0,
+        };
+    }
+    let end = read.length;
+    write_drawing(form, &list[0..end], out)
 }
 
 // What a call of the reader gives: an object, the end, or the number of the refusal.
@@ -120,9 +194,10 @@ pub enum Item {
     Refused(i64),
 }
 
-// Where a reader is: whether the count is read, how many objects are left, and where the next one begins.
+// Where a reader is: whether the form and the count are read, the form, how many objects are left, and where the next one begins.
 pub struct Bookmark {
     pub begun: bool,
+    pub form: Form,
     pub left: u64,
     pub at: usize,
 }
@@ -154,8 +229,8 @@ fn clamp(at: usize, end: usize) -> usize
     end
 }
 
-fn step_from(bytes: &[u8], place: Bookmark, left: u64, at: usize) -> Stepped
-    ensures { λ r. ⌜ r ≡ stepFrom (now (bytes .entry)) place left at ⌝ }
+fn step_from(bytes: &[u8], place: Bookmark, form: Form, left: u64, at: usize) -> Stepped
+    ensures { λ r. ⌜ r ≡ stepFrom (now (bytes .entry)) place form left at ⌝ }
 {
     if left == 0 {
         if at < bytes.len() {
@@ -170,7 +245,7 @@ fn step_from(bytes: &[u8], place: Bookmark, left: u64, at: usize) -> Stepped
         };
     }
     let start = clamp(at, bytes.len());
-    let part = read_object(&bytes[start..]);
+    let part = read_object(form, &bytes[start..]);
     let fault = part.refusal;
     if fault != 0 {
         return Stepped {
@@ -179,12 +254,13 @@ fn step_from(bytes: &[u8], place: Bookmark, left: u64, at: usize) -> Stepped
         };
     }
     let object = part.object;
-    let after = start + part.size;
+    let after = start + part.next;
     let fewer = left - 1;
     Stepped {
         item: Item::One(object),
         place: Bookmark {
             begun: true,
+            form,
             left: fewer,
             at: after,
         },
@@ -197,17 +273,19 @@ pub fn step(bytes: &[u8], place: Bookmark) -> Stepped
 {
     let begun = place.begun;
     if begun {
-        return step_from(bytes, place, place.left, place.at);
+        let form = place.form;
+        return step_from(bytes, place, form, place.left, place.at);
     }
-    let read = read_count(bytes);
-    let no = read.refusal;
+    let head = read_head(bytes);
+    let no = head.refusal;
     if no != 0 {
         return Stepped {
             item: Item::Refused(no),
             place,
         };
     }
-    step_from(bytes, place, read.value, read.size)
+    let form = head.form;
+    step_from(bytes, place, form, head.count, head.size)
 }
 
 // The place before the first call.
@@ -216,6 +294,7 @@ pub fn start() -> Bookmark
 {
     Bookmark {
         begun: false,
+        form: Form::Old,
         left: 0,
         at: 0,
     }

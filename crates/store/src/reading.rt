@@ -1,6 +1,10 @@
-// Reading: the point, the object or the count that bytes begin with, and the objects after the count. Each answer tells how many bytes were
-// taken, or the refusal; the rest of the slice is handed on to the next reading function.
+// Reading: the object or the opening that bytes begin with, and the objects after it. The rest of the slice from its middle is handed on to
+// the function that reads an object; within an object each function is told the place at which it reads, and tells the one behind what it read,
+// or the refusal. The two forms differ in `origin`, `read_tag` and `read_form`.
+use crate::Form;
+use crate::MARK;
 use crate::UNTAGGED;
+use crate::origin;
 use number::Number;
 use number::read_number;
 use sheet::Object;
@@ -10,12 +14,14 @@ use sheet::lent::put_numbers;
 use sheet::refusal::BYTES_AFTER;
 use sheet::refusal::NO_KIND;
 use sheet::refusal::NO_SIDE;
+use sheet::refusal::NO_TAG;
 use sheet::refusal::SAME_POINTS;
 use sheet::refusal::TOO_FAR;
 use sheet::refusal::TOO_MANY;
 ghost use mathlib.Core.Path.{_≡_};
 ghost use Prim.Native.Nat.{_<_, _≤_};
-ghost use lib.IntN.{natAbs};
+ghost use lib.IntN.{pos, natAbs};
+ghost use lib.ListN.{length, drop};
 ghost use lib.Seq.{sets};
 ghost use Rattle.sheet.specs.Figure.{vec};
 ghost use Rattle.sheet.specs.Answers.{objectNumbers};
@@ -23,31 +29,34 @@ ghost use Rattle.sheet.specs.Lent.{Wrote};
 ghost use Rattle.sheet.specs.Limits.{reachSize, most};
 ghost use Rattle.number.specs.Number.{numberLimit, unzigzag};
 ghost use Rattle.number.specs.ReadAs.{ReadAs};
-ghost use Rattle.store.specs.Stored.{plain, objectOf, readCoordinate, readPoint, readSide, readPair, readShape, readObject, readCount, readObjects};
+ghost use Rattle.store.specs.declared.Form.the-variants.{New};
+ghost use Rattle.store.specs.Forms.{readTag};
+ghost use Rattle.store.specs.Stored.{headOf, objectOf, readCoordinate, readPoint, readSide, readPair, readShape, readObject, readForm, readCount, readHead, readObjects};
 
-pub(crate) struct Coordinate {
+// A coordinate or a tag, and the place behind it, or the number of the refusal.
+pub(crate) struct Value {
     pub refusal: i64,
     pub value: i64,
-    pub size: usize,
+    pub next: usize,
 }
 
 pub(crate) struct Spot {
     pub refusal: i64,
     pub x: i64,
     pub y: i64,
-    pub size: usize,
+    pub next: usize,
 }
 
-// An object and how many bytes it takes, or the number of the refusal.
+// An object and the place behind it, or the number of the refusal.
 pub(crate) struct Part {
     pub refusal: i64,
     pub object: Object,
-    pub size: usize,
+    pub next: usize,
 }
 
-// An object by what is stored of it: in this form there is no tag.
-pub(crate) fn object_of(kind: i64, px: i64, py: i64, qx: i64, qy: i64) -> Object
-    ensures { λ r. ⌜ r ≡ objectOf kind px py qx qy ⌝ }
+// An object by what is stored of it.
+pub(crate) fn object_of(kind: i64, tag: i64, px: i64, py: i64, qx: i64, qy: i64) -> Object
+    ensures { λ r. ⌜ r ≡ objectOf kind tag px py qx qy ⌝ }
 {
     Object {
         kind,
@@ -55,17 +64,27 @@ pub(crate) fn object_of(kind: i64, px: i64, py: i64, qx: i64, qy: i64) -> Object
         py,
         qx,
         qy,
-        tag: UNTAGGED,
+        tag,
     }
 }
 
 pub(crate) fn no_part(refusal: i64) -> Part
-    ensures { λ r. ⌜ (r .refusal ≡ refusal) × (r .size ≡ 0) ⌝ }
+    ensures { λ r. ⌜ (r .refusal ≡ refusal) × (r .next ≡ 0) ⌝ }
 {
     Part {
         refusal,
-        object: object_of(0, 0, 0, 0, 0),
-        size: 0,
+        object: object_of(0, 0, 0, 0, 0, 0),
+        next: 0,
+    }
+}
+
+pub(crate) fn no_value(refusal: i64) -> Value
+    ensures { λ r. ⌜ (r .refusal ≡ refusal) × (r .value ≡ pos 0) × (r .next ≡ 0) ⌝ }
+{
+    Value {
+        refusal,
+        value: 0,
+        next: 0,
     }
 }
 
@@ -81,66 +100,96 @@ pub(crate) fn coordinate_of(n: u64) -> i64
     -half - 1
 }
 
-// The coordinate that the bytes begin with, counted from a start.
-pub(crate) fn read_coordinate(start: i64, bytes: &[u8]) -> Coordinate
-    requires { ⌜ natAbs start ≤ reachSize ⌝ }
-    ensures { λ r. ⌜ ReadAs (now (bytes .entry)) (readCoordinate start (now (bytes .entry))) (r .refusal) (r .value) (r .size) ⌝ }
+// The coordinate at a place, counted from a start.
+pub(crate) fn read_coordinate(start: i64, bytes: &[u8], at: usize) -> Value
+    requires { ⌜ (natAbs start ≤ reachSize) × (at ≤ length (now bytes)) ⌝ }
+    ensures told { λ r. ⌜ ReadAs (now (bytes .entry)) (readCoordinate start (drop at (now (bytes .entry)))) (r .refusal) (r .value) (r .next) ⌝ }
+    ensures small { λ r. ⌜ natAbs (r .value) ≤ reachSize ⌝ }
 {
-    let read = read_number(bytes);
+    let read = read_number(&bytes[at..]);
     let no = read.refusal;
     if no != 0 {
-        return Coordinate {
-            refusal: no,
-            value: 0,
-            size: 0,
-        };
+        return no_value(no);
     }
     let far = coordinate_of(read.value);
     let value = start + far;
     if is_beyond(value) {
-        return Coordinate {
-            refusal: TOO_FAR,
-            value: 0,
-            size: 0,
-        };
+        return no_value(TOO_FAR);
     }
-    Coordinate {
+    Value {
         refusal: 0,
         value,
-        size: read.size,
+        next: at + read.size,
     }
 }
 
-// The point that the bytes begin with, counted from another.
-pub(crate) fn read_point(sx: i64, sy: i64, bytes: &[u8]) -> Spot
-    requires { ⌜ (natAbs sx ≤ reachSize) × (natAbs sy ≤ reachSize) ⌝ }
-    ensures { λ r. ⌜ ReadAs (now (bytes .entry)) (readPoint (vec sx sy) (now (bytes .entry))) (r .refusal) (vec (r .x) (r .y)) (r .size) ⌝ }
+// The point at a place, counted from another.
+pub(crate) fn read_point(sx: i64, sy: i64, bytes: &[u8], at: usize) -> Spot
+    requires { ⌜ (natAbs sx ≤ reachSize) × (natAbs sy ≤ reachSize) × (at ≤ length (now bytes)) ⌝ }
+    ensures told { λ r. ⌜ ReadAs (now (bytes .entry)) (readPoint (vec sx sy) (drop at (now (bytes .entry)))) (r .refusal) (vec (r .x) (r .y)) (r .next) ⌝ }
+    ensures small { λ r. ⌜ (natAbs (r .x) ≤ reachSize) × (natAbs (r .y) ≤ reachSize) ⌝ }
 {
-    let x = read_coordinate(sx, bytes);
+    let x = read_coordinate(sx, bytes, at);
     let no = x.refusal;
     if no != 0 {
         return Spot {
             refusal: no,
             x: 0,
             y: 0,
-            size: 0,
+            next: 0,
         };
     }
-    let after = x.size;
-    let y = read_coordinate(sy, &bytes[after..]);
+    let y = read_coordinate(sy, bytes, x.next);
     Spot {
         refusal: y.refusal,
         x: x.value,
         y: y.value,
-        size: after + y.size,
+        next: y.next,
+    }
+}
+
+// A tag that is stored at a place.
+fn read_stored_tag(bytes: &[u8], at: usize) -> Value
+    requires { ⌜ at ≤ length (now bytes) ⌝ }
+    ensures { λ r. ⌜ ReadAs (now (bytes .entry)) (readTag New (drop at (now (bytes .entry)))) (r .refusal) (r .value) (r .next) ⌝ }
+{
+    let read = read_number(&bytes[at..]);
+    let no = read.refusal;
+    if no != 0 {
+        return no_value(no);
+    }
+    let tag = read.value;
+    if (Object::LAST_TAG as u64) < tag {
+        return no_value(NO_TAG);
+    }
+    Value {
+        refusal: 0,
+        value: tag as i64,
+        next: at + read.size,
+    }
+}
+
+// The tag of an object at a place: in the old form none is stored.
+pub(crate) fn read_tag(form: Form, bytes: &[u8], at: usize) -> Value
+    requires { ⌜ at ≤ length (now bytes) ⌝ }
+    ensures { λ r. ⌜ ReadAs (now (bytes .entry)) (readTag form (drop at (now (bytes .entry)))) (r .refusal) (r .value) (r .next) ⌝ }
+{
+    match form {
+        Form::Old => Value {
+            refusal: 0,
+            value: UNTAGGED,
+            next: at,
+        },
+        Form::New => read_stored_tag(bytes, at),
     }
 }
 
 // A side of the frame, by its plain number.
-pub(crate) fn read_side(bytes: &[u8]) -> Part
-    ensures { λ r. ⌜ ReadAs (now (bytes .entry)) (readSide (now (bytes .entry))) (r .refusal) (r .object) (r .size) ⌝ }
+pub(crate) fn read_side(tag: i64, bytes: &[u8], at: usize) -> Part
+    requires { ⌜ at ≤ length (now bytes) ⌝ }
+    ensures { λ r. ⌜ ReadAs (now (bytes .entry)) (readSide tag (drop at (now (bytes .entry)))) (r .refusal) (r .object) (r .next) ⌝ }
 {
-    let read = read_number(bytes);
+    let read = read_number(&bytes[at..]);
     let no = read.refusal;
     if no != 0 {
         return no_part(no);
@@ -151,27 +200,30 @@ pub(crate) fn read_side(bytes: &[u8]) -> Part
     }
     Part {
         refusal: 0,
-        object: object_of(Object::SIDE, n as i64, 0, 0, 0),
-        size: read.size,
+        object: object_of(Object::SIDE, tag, n as i64, 0, 0, 0),
+        next: at + read.size,
     }
 }
 
 // p and q
 const POINTS: usize = 2;
 
-// The object of a kind by its points p and q. Both are read in one place, since the compiler takes a function into its only caller.
-pub(crate) fn read_pair(kind: u64, bytes: &[u8]) -> Part
-    requires { ⌜ kind < numberLimit ⌝ }
-    ensures { λ r. ⌜ ReadAs (now (bytes .entry)) (readPair plain kind (now (bytes .entry))) (r .refusal) (r .object) (r .size) ⌝ }
+// The object of a kind by its points p and q, q counted from where the form counts it: of p as a point before it, that is 0. Both are read in
+// one place, since the compiler takes a function into its only caller.
+pub(crate) fn read_pair(form: Form, kind: u64, tag: i64, bytes: &[u8], at: usize) -> Part
+    requires { ⌜ (kind < numberLimit) × (at ≤ length (now bytes)) ⌝ }
+    ensures { λ r. ⌜ ReadAs (now (bytes .entry)) (readPair form kind tag (drop at (now (bytes .entry)))) (r .refusal) (r .object) (r .next) ⌝ }
 {
     let mut px = 0;
     let mut py = 0;
     let mut qx = 0;
     let mut qy = 0;
-    let mut at = 0;
+    let mut next = at;
     let mut i = 0;
     while i < POINTS {
-        let point = read_point(0, 0, &bytes[at..]);
+        let sx = origin(form, qx);
+        let sy = origin(form, qy);
+        let point = read_point(sx, sy, bytes, next);
         let no = point.refusal;
         if no != 0 {
             return no_part(no);
@@ -180,7 +232,7 @@ pub(crate) fn read_pair(kind: u64, bytes: &[u8]) -> Part
         py = qy;
         qx = point.x;
         qy = point.y;
-        at += point.size;
+        next = point.next;
         i += 1;
     }
     if are_equal(px, py, qx, qy) {
@@ -188,24 +240,24 @@ pub(crate) fn read_pair(kind: u64, bytes: &[u8]) -> Part
     }
     Part {
         refusal: 0,
-        object: object_of(kind as i64, px, py, qx, qy),
-        size: at,
+        object: object_of(kind as i64, tag, px, py, qx, qy),
+        next,
     }
 }
 
-pub(crate) fn read_shape(kind: u64, bytes: &[u8]) -> Part
-    requires { ⌜ kind < numberLimit ⌝ }
-    ensures { λ r. ⌜ ReadAs (now (bytes .entry)) (readShape plain kind (now (bytes .entry))) (r .refusal) (r .object) (r .size) ⌝ }
+pub(crate) fn read_shape(form: Form, kind: u64, tag: i64, bytes: &[u8], at: usize) -> Part
+    requires { ⌜ (kind < numberLimit) × (at ≤ length (now bytes)) ⌝ }
+    ensures { λ r. ⌜ ReadAs (now (bytes .entry)) (readShape form kind tag (drop at (now (bytes .entry)))) (r .refusal) (r .object) (r .next) ⌝ }
 {
     if kind == 4 {
-        return read_side(bytes);
+        return read_side(tag, bytes, at);
     }
-    read_pair(kind, bytes)
+    read_pair(form, kind, tag, bytes, at)
 }
 
 // The object that the bytes begin with.
-pub(crate) fn read_object(bytes: &[u8]) -> Part
-    ensures { λ r. ⌜ ReadAs (now (bytes .entry)) (readObject plain (now (bytes .entry))) (r .refusal) (r .object) (r .size) ⌝ }
+pub(crate) fn read_object(form: Form, bytes: &[u8]) -> Part
+    ensures { λ r. ⌜ ReadAs (now (bytes .entry)) (readObject form (now (bytes .entry))) (r .refusal) (r .object) (r .next) ⌝ }
 {
     let read = read_number(bytes);
     let no = read.refusal;
@@ -216,17 +268,49 @@ pub(crate) fn read_object(bytes: &[u8]) -> Part
     if (kind < 1) | (4 < kind) {
         return no_part(NO_KIND);
     }
-    let after = read.size;
-    let part = read_shape(kind, &bytes[after..]);
-    let object = part.object;
-    Part {
-        refusal: part.refusal,
-        object,
-        size: after + part.size,
+    let tag = read_tag(form, bytes, read.size);
+    let wrong = tag.refusal;
+    if wrong != 0 {
+        return no_part(wrong);
+    }
+    read_shape(form, kind, tag.value, bytes, tag.next)
+}
+
+// The form of the bytes, and how many of them say so, or the number of the refusal.
+pub(crate) struct Marked {
+    pub refusal: i64,
+    pub form: Form,
+    pub size: usize,
+}
+
+// The form that the bytes begin with: the mark is taken, any other number is left to be the count.
+pub(crate) fn read_form(bytes: &[u8]) -> Marked
+    ensures { λ r. ⌜ ReadAs (now (bytes .entry)) (readForm (now (bytes .entry))) (r .refusal) (r .form) (r .size) ⌝ }
+{
+    let first = read_number(bytes);
+    let no = first.refusal;
+    if no != 0 {
+        return Marked {
+            refusal: no,
+            form: Form::Old,
+            size: 0,
+        };
+    }
+    if first.value == MARK {
+        return Marked {
+            refusal: 0,
+            form: Form::New,
+            size: first.size,
+        };
+    }
+    Marked {
+        refusal: 0,
+        form: Form::Old,
+        size: 0,
     }
 }
 
-// The count that a drawing begins with.
+// The count that stands before the objects.
 pub(crate) fn read_count(bytes: &[u8]) -> Number
     ensures told { λ r. ⌜ ReadAs (now (bytes .entry)) (readCount (now (bytes .entry))) (r .refusal) (r .value) (r .size) ⌝ }
     ensures small { λ r. ⌜ r .value ≤ most ⌝ }
@@ -255,6 +339,39 @@ pub(crate) fn read_count(bytes: &[u8]) -> Number
     }
 }
 
+// What stands before the objects, the form and the count, and how many bytes it takes, or the number of the refusal.
+pub(crate) struct Opening {
+    pub refusal: i64,
+    pub form: Form,
+    pub count: u64,
+    pub size: usize,
+}
+
+pub(crate) fn read_head(bytes: &[u8]) -> Opening
+    ensures told { λ r. ⌜ ReadAs (now (bytes .entry)) (readHead (now (bytes .entry))) (r .refusal) (headOf (r .form) (r .count)) (r .size) ⌝ }
+    ensures small { λ r. ⌜ r .count ≤ most ⌝ }
+{
+    let marked = read_form(bytes);
+    let no = marked.refusal;
+    if no != 0 {
+        return Opening {
+            refusal: no,
+            form: Form::Old,
+            count: 0,
+            size: 0,
+        };
+    }
+    let form = marked.form;
+    let after = marked.size;
+    let read = read_count(&bytes[after..]);
+    Opening {
+        refusal: read.refusal,
+        form,
+        count: read.value,
+        size: after + read.size,
+    }
+}
+
 // An object's numbers, at a place of a list as far as it has cells.
 pub(crate) fn put_object(o: Object, out: &mut [i64], at: usize) -> usize
     ensures { λ r. ⌜ Wrote (now (out .entry)) (now (out .exit)) at r (objectNumbers o) ⌝ }
@@ -268,18 +385,18 @@ pub(crate) fn put_object(o: Object, out: &mut [i64], at: usize) -> usize
     put_numbers(&[kind, px, py, qx, qy, tag], out, at)
 }
 
-// The refusal of bytes that are to hold count objects and nothing more; 0 for none. The objects, or those before the refusal, are put at the
+// The refusal of bytes that are to hold count objects of a form and nothing more; 0 for none. The objects, or those before the refusal, are put at the
 // front of a list as far as it has cells: one loop for reading and, with a list of none, for the check alone, so that an object is read in
 // one place.
-pub(crate) fn read_objects(count: u64, bytes: &[u8], out: &mut [i64]) -> i64
-    ensures refusal { λ r. ⌜ r ≡ readObjects plain count (now (bytes .entry)) .refusal ⌝ }
-    ensures cells { λ r. ⌜ now (out .exit) ≡ sets (now (out .entry)) 0 (readObjects plain count (now (bytes .entry)) .objects) ⌝ }
+pub(crate) fn read_objects(form: Form, count: u64, bytes: &[u8], out: &mut [i64]) -> i64
+    ensures refusal { λ r. ⌜ r ≡ readObjects form count (now (bytes .entry)) .refusal ⌝ }
+    ensures cells { λ r. ⌜ now (out .exit) ≡ sets (now (out .entry)) 0 (readObjects form count (now (bytes .entry)) .objects) ⌝ }
 {
     let mut left = count;
     let mut at = 0;
     let mut to = 0;
     while 0 < left {
-        let part = read_object(&bytes[at..]);
+        let part = read_object(form, &bytes[at..]);
         let no = part.refusal;
         if no != 0 {
             return no;
@@ -288,7 +405,7 @@ pub(crate) fn read_objects(count: u64, bytes: &[u8], out: &mut [i64]) -> i64
         if out.len() != 0 {
             to = put_object(object, out, to);
         }
-        at += part.size;
+        at += part.next;
         left -= 1;
     }
     if at < bytes.len() {

@@ -6,11 +6,14 @@ use Prim.Native.Nat.{ℕ}
 use lib.IntN.{ℤ}
 use contract.Lifetimes.{Lfts}
 use denote.Ref.{RefT}
+use Rattle.trial.specs.declared.TwoNumbers.{TwoNumbers}
 use Rattle.trial.specs.declared.ThreeNumbers.{ThreeNumbers}
 use Rattle.trial.specs.declared.SixNumbers.{SixNumbers}
 use Rattle.trial.proofs.silvanelga_trial_list.Reads as trial-list
 use Rattle.trial.proofs.silvanelga_trial_read.Reads as trial-read
 use Rattle.trial.proofs.silvanelga_trial_write.Reads as trial-write
+use Rattle.trial.proofs.silvanelga_trial_form.Reads as trial-form
+use Rattle.trial.proofs.silvanelga_trial_move.Reads as trial-move
 use Rattle.trial.proofs.silvanelga_trial_number.Reads as trial-number
 use Rattle.trial.proofs.silvanelga_trial_put.Reads as trial-put
 use Rattle.trial.proofs.silvanelga_trial_place.Reads as trial-place
@@ -29,10 +32,20 @@ pub trial-read-answer :
 trial-read-answer κs bytes list r s l m p q = (p .0 ∙ sym (q .0), p .1 ∙ sym (q .1))
 
 pub trial-write-answer :
-    (κs : Lfts 2) (list : RefT (List ℤ)) (bytes : RefT (List ℕ)) (r s : ℤ) (l m : RefT (List ℕ))
-    → trial-write.Post κs (list, (bytes, tt)) r (list, (l, tt)) → trial-write.Post κs (list, (bytes, tt)) s (list, (m, tt))
+    (κs : Lfts 2) (form : ℤ) (list : RefT (List ℤ)) (bytes : RefT (List ℕ)) (r s : ℤ) (l m : RefT (List ℕ))
+    → trial-write.Post κs (form, (list, (bytes, tt))) r (form, (list, (l, tt))) → trial-write.Post κs (form, (list, (bytes, tt))) s (form, (list, (m, tt)))
     → (r ≡ s) × (l .now ≡ m .now)
-trial-write-answer κs list bytes r s l m p q = (p .0 ∙ sym (q .0), p .1 ∙ sym (q .1))
+trial-write-answer κs form list bytes r s l m p q = (p .0 ∙ sym (q .0), p .1 ∙ sym (q .1))
+
+pub trial-form-answer :
+    (κs : Lfts 1) (bytes : RefT (List ℕ)) (r s : ℤ) → trial-form.Post κs (bytes, tt) r (bytes, tt) → trial-form.Post κs (bytes, tt) s (bytes, tt) → r ≡ s
+trial-form-answer κs bytes r s p q = p ∙ sym q
+
+pub trial-move-answer :
+    (κs : Lfts 2) (bytes : RefT (List ℕ)) (form : ℤ) (out : RefT (List ℕ)) (r s : TwoNumbers) (l m : RefT (List ℕ))
+    → trial-move.Post κs (bytes, (form, (out, tt))) r (bytes, (form, (l, tt))) → trial-move.Post κs (bytes, (form, (out, tt))) s (bytes, (form, (m, tt)))
+    → (r ≡ s) × (l .now ≡ m .now)
+trial-move-answer κs bytes form out r s l m p q = (p .0 ∙ sym (q .0), p .1 ∙ sym (q .1))
 
 pub trial-number-answer :
     (κs : Lfts 1) (bytes : RefT (List ℕ)) (r s : ThreeNumbers)

@@ -1,8 +1,11 @@
--- What C can take by value: a stored number as three numbers; a place or a box as six, those of what is told, in their order, and 0 for those
+-- What C can take by value: a form as a number; a stored number as three numbers; what moving answers as two; a place or a box as six, those of what is told, in their order, and 0 for those
 -- that it has not.
+use mathlib.Core.Bool.{cond}
 use mathlib.Core.List.{List}
-use lib.IntN.{ℤ, pos}
+use Prim.Native.Nat.{ℕ}
+use lib.IntN.{ℤ, pos, _+ℤ_}
 use lib.ListN.{getD}
+use Rattle.whole.specs.Flag.{eqZ}
 use Rattle.sheet.specs.declared.Point.{Point}
 use Rattle.sheet.specs.Points.{pointRefusal}
 use Rattle.screen.specs.Quotient.{zero+}
@@ -11,8 +14,25 @@ use Rattle.screen.specs.Places.{placeOf}
 use Rattle.sheet.specs.Lists.{listRefusal}
 use Rattle.number.specs.declared.Number.{Number}
 use Rattle.screen.specs.Boxes.{endsOf, boxOf, boxSays}
+use Rattle.store.specs.declared.Form.{Form}
+use Rattle.store.specs.declared.Form.the-variants.{Old, New}
+use Rattle.store.specs.declared.Written.{Written}
+use Rattle.store.specs.Stored.{readDrawing, formOf}
+use Rattle.store.specs.Answers.{formNumber}
+use Rattle.trial.specs.declared.TwoNumbers.{TwoNumbers}
 use Rattle.trial.specs.declared.SixNumbers.{SixNumbers}
 use Rattle.trial.specs.declared.ThreeNumbers.{ThreeNumbers}
+
+-- the form of a number: any but the new one's is the old one's
+abbrev pub formFrom : ℤ → Form
+formFrom n = cond (eqZ n (formNumber New)) New Old
+
+-- the number of a drawing's form, or 100 plus the refusal
+abbrev pub formTold : List ℕ → ℤ
+formTold bytes = cond (eqZ (readDrawing bytes .refusal) (pos 0)) (formNumber (formOf bytes)) (pos 100 +ℤ readDrawing bytes .refusal)
+
+abbrev pub twoOf : Written → TwoNumbers
+twoOf r = record { refusal = r .refusal; length = r .length }
 
 abbrev pub threeOf : Number → ThreeNumbers
 threeOf n = record { refusal = n .refusal; value = n .value; size = n .size }

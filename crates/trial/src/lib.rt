@@ -1,7 +1,10 @@
 // Calls for bench/ and tests/, so that a C program can time the listing and the stored drawings, and compare stored numbers, places and boxes.
 mod numbers;
 
+use numbers::form_from;
+use numbers::form_number;
 use sheet::Point;
+use store::Formed;
 ghost use mathlib.Core.Path.{_≡_};
 ghost use lib.ListN.{length};
 ghost use Rattle.listing.specs.Rows.{rowsOf, sharing};
@@ -10,8 +13,8 @@ ghost use Rattle.sheet.specs.Lists.{listRefusal};
 ghost use Rattle.listing.specs.Listing.{listed};
 ghost use Rattle.number.specs.Number.{writeNumbers, readNumber, numberOf};
 ghost use Rattle.store.specs.Stored.{readDrawing};
-ghost use Rattle.store.specs.Answers.{readAnswer, readInto, writeAnswer, writeInto};
-ghost use Rattle.trial.specs.Numbers.{threeOf, placeAnswer, boxAnswer};
+ghost use Rattle.store.specs.Answers.{readAnswer, readInto, writeAnswer, writeInto, moveAnswer, moveInto};
+ghost use Rattle.trial.specs.Numbers.{formFrom, formTold, twoOf, threeOf, placeAnswer, boxAnswer};
 
 // A place or a box: the refusal or 0, the side number or the flag, and the floats, from the front.
 #[repr(C)]
@@ -24,6 +27,13 @@ pub struct SixNumbers {
     pub fourth: f64,
 }
 
+// What moving answers: the refusal or 0, and the length of what was put, or the length needed.
+#[repr(C)]
+pub struct TwoNumbers {
+    pub refusal: i64,
+    pub length: usize,
+}
+
 // A stored number: the refusal or 0, the number, and how many bytes it takes.
 #[repr(C)]
 pub struct ThreeNumbers {
@@ -31,6 +41,9 @@ pub struct ThreeNumbers {
     pub value: u64,
     pub size: usize,
 }
+
+// What a refusal is added to, so that it is the number of no form.
+const REFUSED: i64 = 100;
 
 #[no_mangle]
 pub extern "C" fn silvanelga_trial_list(list: &[i64], rows: &mut [i64]) -> i64
@@ -51,12 +64,34 @@ pub extern "C" fn silvanelga_trial_read(bytes: &[u8], list: &mut [i64]) -> i64
 }
 
 #[no_mangle]
-pub extern "C" fn silvanelga_trial_write(list: &[i64], bytes: &mut [u8]) -> i64
-    ensures { λ r. ⌜ r ≡ writeAnswer (now (list .entry)) (now (bytes .entry)) .refusal ⌝ }
-    ensures { λ r. ⌜ now (bytes .exit) ≡ writeInto (now (list .entry)) (now (bytes .entry)) ⌝ }
+pub extern "C" fn silvanelga_trial_write(form: i64, list: &[i64], bytes: &mut [u8]) -> i64
+    ensures { λ r. ⌜ r ≡ writeAnswer (formFrom form) (now (list .entry)) (now (bytes .entry)) .refusal ⌝ }
+    ensures { λ r. ⌜ now (bytes .exit) ≡ writeInto (formFrom form) (now (list .entry)) (now (bytes .entry)) ⌝ }
 {
-    let write_refusal = store::write_drawing(list, bytes).refusal;
+    let write_refusal = store::write_drawing(form_from(form), list, bytes).refusal;
     write_refusal
+}
+
+#[no_mangle]
+pub extern "C" fn silvanelga_trial_form(bytes: &[u8]) -> i64
+    ensures { λ r. ⌜ r ≡ formTold (now (bytes .entry)) ⌝ }
+{
+    let formed = store::form_of(bytes);
+    match formed {
+        Formed::Has(form) => form_number(form),
+        Formed::Refused(refusal) => REFUSED + refusal,
+    }
+}
+
+#[no_mangle]
+pub extern "C" fn silvanelga_trial_move(bytes: &[u8], form: i64, out: &mut [u8]) -> TwoNumbers
+    ensures { λ r. ⌜ r ≡ twoOf (moveAnswer (formFrom form) (now (bytes .entry)) (now (out .entry))) ⌝ }
+    ensures { λ r. ⌜ now (out .exit) ≡ moveInto (formFrom form) (now (bytes .entry)) (now (out .entry)) ⌝ }
+{
+    let moved = store::move_drawing(bytes, form_from(form), out);
+    let refusal = moved.refusal;
+    let length = moved.length;
+    TwoNumbers { refusal, length }
 }
 
 #[no_mangle]

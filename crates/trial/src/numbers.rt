@@ -1,12 +1,38 @@
-// Places and boxes as six numbers: a struct by value, since C takes no enum.
+// Forms as numbers; places and boxes as six numbers, a struct by value, since C takes no enum.
 use crate::SixNumbers;
 use screen::Boxed;
 use screen::OnScreen;
 use screen::SheetBox;
+use store::Form;
 ghost use mathlib.Core.Path.{_≡_};
 ghost use Rattle.screen.specs.Places.{placeSays};
 ghost use Rattle.screen.specs.Boxes.{boxSays, boxedSays};
-ghost use Rattle.trial.specs.Numbers.{sixOf};
+ghost use Rattle.store.specs.Answers.{formNumber};
+ghost use Rattle.trial.specs.Numbers.{formFrom, sixOf};
+
+// The numbers of the forms.
+const OLD: i64 = 1;
+
+const NEW: i64 = 2;
+
+pub fn form_number(form: Form) -> i64
+    ensures { λ r. ⌜ r ≡ formNumber form ⌝ }
+{
+    match form {
+        Form::Old => OLD,
+        Form::New => NEW,
+    }
+}
+
+// The form of a number: any but the new one's is the old one's.
+pub fn form_from(number: i64) -> Form
+    ensures { λ r. ⌜ r ≡ formFrom number ⌝ }
+{
+    if number == NEW {
+        return Form::New;
+    }
+    Form::Old
+}
 
 fn six(refusal: i64, number: i64, first: f64, second: f64, third: f64, fourth: f64) -> SixNumbers
     ensures { λ r. ⌜ r ≡ record { refusal = refusal; number = number; first = first; second = second; third = third; fourth = fourth } ⌝ }

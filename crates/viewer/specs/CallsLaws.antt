@@ -1,7 +1,6 @@
 -- The viewer's calls, step by step as the code goes. To cite:
 --   call-more                 a later call of a reader is one call fewer from the place after this one
 --   place-far, place-near     a point beyond 2,000 and one that is not; side-taken: the kernel then refuses nothing
---   bytes-within              a refusal of stored bytes is a small number
 --   answer-bytes, answer-index, answer-object   the bytes' own refusal, 13, and the side of the object
 --   farIndex, index-far, Natural, index-natural   an index that no drawing has, and a natural one
 --   found, missed             what a call of the reader says of the index
@@ -40,7 +39,6 @@ use Rattle.store.specs.Reader.{stepOf, callFrom, endOf, itemOf}
 use Rattle.store.specs.Refusals.{ofBytes}
 use Rattle.viewer.specs.Calls.{object, whole, indexRefusal, sideIn}
 use Rattle.viewer.specs.SideFor.{sideFor}
-use Rattle.viewer.specs.ReadingLaws.{bytes-refusal}
 
 pub call-more : (bs : List ℕ) (p : Bookmark) (k : ℕ) → 0 < k → callFrom bs p k ≡ callFrom bs (stepOf bs p .place) (k - 1)
 unfolding callFrom
@@ -70,23 +68,6 @@ module _ (x y : ℤ) where
     pub side-taken : (o : Object) → objectRefusal o ≡ pos 0 → sideSignRefusal o (whole x y) ≡ pos 0
     unfolding sideSignRefusal
     side-taken o h = simp (eq-eqZ h, place-point)
-
--- ---- numbers of refusals
-
-abbrev upto : ℕ → List ℕ → Bool
-upto k [] = true
-upto k (m ∷ ms) = leb m k && upto k ms
-
-one-upto : (k : ℕ) (ms : List ℕ) {z : ℤ} → upto k ms ≡ true → OneOf ms z → Within k z
-one-upto k [] h o = absurd (true≢false (sym (o .one)))
-one-upto k (m ∷ ms) {z} h o = let b = both (leb m k) (upto k ms) .0 h in go (b .0) (one-upto k ms (b .1)) (split o)
-  where
-    go : leb m k ≡ true → (OneOf ms z → Within k z) → (z ≡ pos m) ⊎ OneOf ms z → Within k z
-    go l u (inl e) = w-is e (record { within = leb-true m k l })
-    go l u (inr p) = u p
-
-pub bytes-within : (bs : List ℕ) → Within 11 (readDrawing bs .refusal)
-bytes-within bs = one-upto 11 (0 ∷ ofBytes) refl (bytes-refusal bs)
 
 -- ---- the index
 

@@ -6,6 +6,5 @@ pub mod Worked
 -- what the code's inner functions say
 pub mod SideFor
 -- laws
-pub mod ReadingLaws
 pub mod CallsLaws
 pub mod SideIsLaws

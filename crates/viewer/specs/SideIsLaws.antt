@@ -29,7 +29,7 @@ use Rattle.store.specs.Stored.{Drawing, readDrawing}
 use Rattle.store.specs.Refusals.{ofBytes}
 use Rattle.viewer.specs.Calls.{checkAnswer, object, whole, indexRefusal, placeRefusal, callRefusal, sideIn, sideAnswer}
 use Rattle.viewer.specs.SideIs.{ofSide, SideIs, a-sign, a-refusal}
-use Rattle.viewer.specs.ReadingLaws.{bytes-refusal, good}
+use Rattle.store.specs.SoundLaws.{bytes-refusal, good}
 use Rattle.viewer.specs.CallsLaws.{side-taken}
 
 -- "0 or the refusal"

@@ -7,13 +7,21 @@ use Rattle.whole.specs.Sign.{sgn}
 use Rattle.sheet.specs.Figure.{sideOf, figureOf}
 use Rattle.sheet.specs.Signs.{turnPoly, turn, sideSign}
 use Rattle.sheet.specs.Cases.{minus}
-use Rattle.store.specs.Stored.{readCoordinate, readSide, readPoint, readTo, readPair, readShape, readObject, readObjects, readCount, readDrawing}
+use Rattle.store.specs.Forms.{readTag}
+use Rattle.store.specs.Stored.{readCoordinate, readSide, readPoint, readTo, readPair, readShape, readObject, readObjects, readForm, readCount, readHead, readDrawing}
 use Rattle.number.specs.Number.{valueOf, needless, readGroups}
 use Rattle.viewer.specs.Calls.{checkAnswer, sideIn, sideAnswer}
 
 -- `03 03 00 00 04 02 01 00 04 04 00 04 03`: a line from (0,0) toward (2,1), a segment from (0,2) to (2,0) and side 3
 abbrev drawing : List ℕ
 drawing = 3 ∷ 3 ∷ 0 ∷ 0 ∷ 4 ∷ 2 ∷ 1 ∷ 0 ∷ 4 ∷ 4 ∷ 0 ∷ 4 ∷ 3 ∷ []
+
+-- the same in the new form, with tags 1, 2 and 3; and side 1 of tag 2,000,001
+abbrev newDrawing : List ℕ
+newDrawing = 232 ∷ 7 ∷ 3 ∷ 3 ∷ 1 ∷ 0 ∷ 0 ∷ 4 ∷ 2 ∷ 1 ∷ 2 ∷ 0 ∷ 4 ∷ 4 ∷ 3 ∷ 4 ∷ 3 ∷ 3 ∷ []
+
+abbrev noTag : List ℕ
+noTag = 232 ∷ 7 ∷ 1 ∷ 4 ∷ 129 ∷ 137 ∷ 122 ∷ 1 ∷ []
 
 -- p equals q
 abbrev damaged : List ℕ
@@ -41,9 +49,14 @@ pub record WorkedCalls : Type 0 where
   -- "the bytes' own, then 13, then 2"
   bytes-before-index : sideAnswer damaged (pos 9) (pos 2001) (pos 0) ≡ pos 103
   index-before-place : (sideAnswer drawing (pos 3) (pos 2001) (pos 0) ≡ pos 113) × (sideAnswer drawing (minus 1) (pos 0) (minus 2001) ≡ pos 113)
+  -- "The reader takes either form"
+  either-form :
+      (checkAnswer newDrawing ≡ pos 0) × (sideAnswer newDrawing (pos 0) (pos 0) (pos 1) ≡ pos 1) × (sideAnswer newDrawing (pos 1) (pos 0) (pos 0) ≡ minus 1)
+      × (sideAnswer newDrawing (pos 2) (pos 0) (pos 0) ≡ pos 1) × (sideAnswer newDrawing (pos 3) (pos 0) (pos 0) ≡ pos 113)
+  tag-refused : (checkAnswer noTag ≡ pos 15) × (sideAnswer noTag (pos 9) (pos 2001) (pos 0) ≡ pos 115)
 
 pub worked-calls : WorkedCalls
-unfolding sgn sideOf figureOf turnPoly turn sideSign valueOf needless readGroups readCoordinate readSide readPoint readTo readPair readShape readObject readObjects readCount readDrawing sideIn
+unfolding sgn sideOf figureOf turnPoly turn sideSign valueOf needless readGroups readCoordinate readSide readPoint readTo readPair readTag readShape readObject readObjects readForm readCount readHead readDrawing sideIn
 worked-calls = record {
   checks = (refl, refl, refl, refl);
   signs = (refl, refl, refl);
@@ -54,4 +67,6 @@ worked-calls = record {
   at-the-limit = (refl, refl);
   bytes-before-index = refl;
   index-before-place = (refl, refl);
+  either-form = (refl, refl, refl, refl, refl);
+  tag-refused = (refl, refl);
 }

@@ -1,10 +1,11 @@
 // Stored drawings: read, checked and written, with the lent cells shown. A cell that holds 7 has not been touched.
 use crate::say;
 use sheet::Object;
+use store::Form;
 
 const UNTOUCHED: i64 = 7;
 
-const UNTOUCHED_BYTE: u8 = 7;
+pub const UNTOUCHED_BYTE: u8 = 7;
 
 // Room for one object, and one cell more.
 const ROOM: usize = Object::WIDTH + 1;
@@ -16,7 +17,7 @@ pub const TOO_MANY: usize = (Object::MOST + 1) * Object::WIDTH;
 const FULL: usize = 2 + Object::MOST * 2;
 
 // The answer, and the cells of a lent list after the call: room for one object, and one cell more.
-fn read(bytes: &[u8]) {
+pub fn read(bytes: &[u8]) {
     let mut list = [UNTOUCHED; ROOM];
     let read = store::read_drawing(bytes, &mut list);
     say::number(read.refusal);
@@ -27,10 +28,10 @@ fn read(bytes: &[u8]) {
     say::end();
 }
 
-// The answer, and four lent bytes after the call.
+// The answer of writing in the old form, and four lent bytes after the call.
 pub fn write(list: &[i64]) {
     let mut bytes = [UNTOUCHED_BYTE; 4];
-    let written = store::write_drawing(list, &mut bytes);
+    let written = store::write_drawing(Form::Old, list, &mut bytes);
     say::number(written.refusal);
     say::count(written.length as u64);
     say::text(b" bytes");

@@ -1,6 +1,7 @@
 // Document 01's cases, run: each line names a case and says what the calls answer. The file stdout has what they should.
 mod circles;
 mod drawings;
+mod forms;
 mod kernels;
 mod listings;
 mod say;
@@ -37,6 +38,12 @@ fn main() {
     tags::nothing_else();
     tags::refusals();
     tags::writing();
+    forms::reading();
+    forms::heads();
+    forms::writing();
+    forms::moves();
+    forms::refused_moves();
+    forms::which();
     screens::edges();
     screens::corners();
     screens::every_end();

@@ -5,6 +5,8 @@ use sheet::Made;
 use sheet::Object;
 use sheet::Point;
 use sheet::Signed;
+use store::Form;
+use store::Formed;
 
 pub fn text(words: &[u8]) {
     io::write_all(1, words);
@@ -113,4 +115,19 @@ pub fn crossing(c: Crossing) {
         }
         Crossing::Refused(n) => refused(n),
     }
+}
+
+fn form(form: Form) {
+    match form {
+        Form::Old => text(b" old"),
+        Form::New => text(b" new"),
+    }
+}
+
+pub fn formed(formed: Formed) {
+    match formed {
+        Formed::Has(f) => form(f),
+        Formed::Refused(no) => number(no),
+    }
+    end();
 }

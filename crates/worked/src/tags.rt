@@ -52,7 +52,7 @@ pub fn refusals() {
     say::crossing(cross(tagged(-1, 3, 0, 0, 2, 1), obj(0, 0, 0, 0, 0)));
 }
 
-// A drawing has no place for a tag.
+// The old form has no place for a tag.
 pub fn writing() {
     say::text(b"write side 3 of tag 1");
     write(&[4, 3, 0, 0, 0, 1]);

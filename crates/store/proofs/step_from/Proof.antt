@@ -5,7 +5,7 @@ use native.Mathlib.Omega.{arith}
 use lib.IntN.{ℤ}
 use Rattle.whole.specs.Tests.{out-ok}
 use Rattle.store.specs.declared.Item.the-variants.{Refused}
-use Rattle.store.specs.Stored.{plain, readObject}
+use Rattle.store.specs.Stored.{readObject}
 use Rattle.store.specs.Reader.{stepTo}
 use Rattle.number.specs.ReadAsLaws.{reads-rest}
 use Rattle.store.specs.StepLaws.{step-over, step-end, step-refused, step-one}
@@ -15,12 +15,12 @@ use Rattle.store.proofs.step_from.Tie as tie
 returns : tie.Need-returns
 returns c =
     let a = c .before .before .before .args in
-    sym (step-over (a .bytes .now) (a .place) (a .left) (a .at) (c .before .if1 .taken) (c .if2 .taken))
+    sym (step-over (a .bytes .now) (a .place) (a .form) (a .left) (a .at) (c .before .if1 .taken) (c .if2 .taken))
 
 returns-2 : tie.Need-returns-2
 returns-2 c =
     let a = c .before .before .before .args in
-    sym (step-end (a .bytes .now) (a .place) (a .left) (a .at) (c .before .if1 .taken) (c .if2 .left))
+    sym (step-end (a .bytes .now) (a .place) (a .form) (a .left) (a .at) (c .before .if1 .taken) (c .if2 .left))
 
 returns-3 : tie.Need-returns-3
 returns-3 c =
@@ -29,7 +29,7 @@ returns-3 c =
     let s = c .before .before .before .before .clamp in
     let ok = c .before .struct-told .given .0 .1 in
     ap (λ (z : ℤ). stepTo (Refused z) (a .place)) (out-ok (r .result .refusal) ok)
-    ∙ sym (step-refused (a .bytes .now) (a .place) (a .left) (a .at) (omega arith) (s .ensures) (reads-rest (readObject plain) (s .result)
+    ∙ sym (step-refused (a .bytes .now) (a .place) (a .form) (a .left) (a .at) (omega arith) (s .ensures) (reads-rest (readObject (a .form)) (s .result)
     (a .bytes .now) (r .ensures)) ok (c .if3 .taken))
 
 returns-4 : tie.Need-returns-4
@@ -38,7 +38,7 @@ returns-4 c =
     let r = c .before .before .before .before .read-object in
     let s = c .before .before .before .before .before .before .clamp in
     let ok = c .before .before .before .struct-told .given .0 .1 in
-    sym (step-one (a .bytes .now) (a .place) (a .left) (a .at) (omega arith) (s .ensures) (reads-rest (readObject plain) (s .result)
+    sym (step-one (a .bytes .now) (a .place) (a .form) (a .left) (a .at) (omega arith) (s .ensures) (reads-rest (readObject (a .form)) (s .result)
     (a .bytes .now) (r .ensures)) ok (c .before .before .if3 .left))
 
 pub step-from-spec : {M : Type 1} → statement M

@@ -21,9 +21,9 @@ use Rattle.store.specs.declared.Item.the-variants.{One}
 use Rattle.store.specs.Stored.{readDrawing}
 use Rattle.store.specs.Reader.{itemOf}
 use Rattle.store.proofs.Item as item
-use Rattle.viewer.specs.ReadingLaws.{good, item-accepted}
+use Rattle.store.specs.SoundLaws.{good, item-accepted, bytes-within}
 use Rattle.viewer.specs.SideFor.{sideFor}
-use Rattle.viewer.specs.CallsLaws.{bytes-within, answer-bytes, answer-index, answer-object, farIndex, index-far, Natural, index-natural, found, missed}
+use Rattle.viewer.specs.CallsLaws.{answer-bytes, answer-index, answer-object, farIndex, index-far, Natural, index-natural, found, missed}
 use Rattle.viewer.proofs.silvanelga_side.Statement.{statement}
 use Rattle.viewer.proofs.silvanelga_side.Tie as tie
 
@@ -35,7 +35,7 @@ stored s = s .args .bytes .now
 refusal : (c : tie.After-check-drawing) → out (c .check-drawing .result) ≡ readDrawing (stored (c .before .before)) .refusal
 refusal c = gave (c .check-drawing .ok) (c .check-drawing .ensures)
 
-small : (c : tie.After-check-drawing) → Within 111 (pos 100 +ℤ out (c .check-drawing .result))
+small : (c : tie.After-check-drawing) → Within 115 (pos 100 +ℤ out (c .check-drawing .result))
 small c = w-add (w-pos 100) (w-is (refusal c) (bytes-within (stored (c .before .before))))
 
 add-result : tie.Need-add-result

@@ -13,7 +13,8 @@ use Rattle.whole.specs.Tests.{fits-ok, lit-flag}
 use Rattle.whole.specs.Flag.{eqZ}
 use Rattle.sheet.specs.declared.Object.{Object}
 use Rattle.sheet.specs.Lists.{countOf, objectAt}
-use Rattle.store.specs.Stored.{untagged, allUntagged}
+use Rattle.store.specs.Forms.{untagged}
+use Rattle.store.specs.Stored.{allUntagged}
 use Rattle.store.proofs.writing.all_untagged.Statement.{statement}
 use Rattle.store.proofs.writing.all_untagged.Tie as tie
 

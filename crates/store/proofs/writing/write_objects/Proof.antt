@@ -7,17 +7,17 @@ use Rattle.whole.specs.InTurn.{inTurn}
 use Rattle.sheet.specs.Lent.{Wrote}
 use Rattle.sheet.specs.LentLaws.{wrote-none, wrote-two, wrote-as, wrote-length}
 use Rattle.sheet.specs.Lists.{objectAt}
-use Rattle.store.specs.Stored.{plain, writeObject, writeObjects}
+use Rattle.store.specs.Stored.{writeObject, writeObjects}
 use Rattle.store.specs.BoundedLaws.{accepted-bounded}
 use Rattle.store.specs.ListLaws.{objects-more}
 use Rattle.store.proofs.writing.write_objects.Statement.{statement}
 use Rattle.store.proofs.writing.write_objects.Tie as tie
 
 abbrev Inv-loop : tie.InvT-loop
-Inv-loop list count out₀ at to₀ i₀ out to i = (i ≤ count) × Wrote out₀ out at to (writeObjects plain i list)
+Inv-loop form list count out₀ at to₀ i₀ out to i = (i ≤ count) × Wrote out₀ out at to (writeObjects form i list)
 
 abbrev μ-loop : tie.MeasureT-loop
-μ-loop list count out₀ at to₀ i₀ out to i = count - i
+μ-loop form list count out₀ at to₀ i₀ out to i = count - i
 
 loop-holds : tie.Need-loop-holds Inv-loop μ-loop
 unfolding inTurn
@@ -32,8 +32,9 @@ write-object-requires c κs =
 loop-again : tie.Need-loop-again Inv-loop μ-loop
 loop-again c =
     let l = c .before .before .before .before .before .before .loop in
-    let one = wrote-as (c .before .before .write-object .ensures) (ap (writeObject plain) (c .before .before .before .before .object-at .ensures)) in
-    (omega arith, wrote-as (wrote-two (l .inv .1) one) (sym (objects-more plain (l .i) (c .before .before .before .before .before .before .before .before .args .list .now))))
+    let a = c .before .before .before .before .before .before .before .before .args in
+    let one = wrote-as (c .before .before .write-object .ensures) (ap (writeObject (a .form)) (c .before .before .before .before .object-at .ensures)) in
+    (omega arith, wrote-as (wrote-two (l .inv .1) one) (sym (objects-more (a .form) (l .i) (a .list .now))))
 
 same-length : tie.Need-same-length Inv-loop μ-loop
 same-length c = wrote-length (c .before .loop .inv .1)
@@ -43,7 +44,7 @@ returns c =
     let s = c .before .before .before in
     let l = c .before .loop in
     let done : l .i ≡ s .args .count = omega (arith, l .inv .0) in
-    wrote-as (l .inv .1) (ap (λ (k : ℕ). writeObjects plain k (s .args .list .now)) done)
+    wrote-as (l .inv .1) (ap (λ (k : ℕ). writeObjects (s .args .form) k (s .args .list .now)) done)
 
 pub write-objects-spec : {M : Type 1} → statement M
 write-objects-spec =

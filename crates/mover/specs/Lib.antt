@@ -1,0 +1,4 @@
+-- what is to be believed
+pub mod Told
+-- laws
+pub mod ToldLaws
