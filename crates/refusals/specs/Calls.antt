@@ -3,7 +3,7 @@
 -- given point, a corner, the reach test, the test whether p and q are equal, an object of a list and what is put into lent cells of `sheet`,
 -- stored_size and put_stored of `number` and the call of `trial` for it, start and open_reader of `store`.
 use mathlib.Core.Path.{_≡_}
-use mathlib.Core.Bool.{cond}
+use mathlib.Core.Bool.{Bool, cond, _||_}
 use mathlib.Core.List.{List}
 use Prim.Native.Nat.{ℕ}
 use lib.IntN.{ℤ, pos, _-ℤ_}
@@ -11,6 +11,7 @@ use lib.Signed.{ltZ}
 use contract.Lifetimes.{Lfts}
 use denote.Ref.{RefT}
 use denote.Triple.Clauses.{AtExit}
+use Rattle.whole.specs.Flag.{eqZ}
 use Rattle.sheet.specs.declared.Object.{Object}
 use Rattle.sheet.specs.declared.Point.{Point}
 use Rattle.sheet.specs.declared.Made.{Made}
@@ -21,6 +22,7 @@ use Rattle.sheet.specs.Points.{within}
 use Rattle.sheet.specs.Answers.{refusalIn, madeSays, endsSay, signedSays, crossingSays}
 use Rattle.number.specs.declared.Number.{Number}
 use Rattle.store.specs.declared.Form.{Form}
+use Rattle.store.specs.declared.Form.the-variants.{Old, New}
 use Rattle.store.specs.declared.Formed.{Formed}
 use Rattle.store.specs.declared.Read.{Read}
 use Rattle.store.specs.declared.Written.{Written}
@@ -28,7 +30,7 @@ use Rattle.store.specs.declared.Bookmark.{Bookmark}
 use Rattle.store.specs.declared.Stepped.{Stepped}
 use Rattle.store.specs.declared.Reader.{Reader}
 use Rattle.store.specs.declared.Taken.{Taken}
-use Rattle.store.specs.Answers.{formedSays}
+use Rattle.store.specs.Answers.{formNumber, formedSays}
 use Rattle.store.specs.Reader.{itemSays}
 use Rattle.listing.specs.declared.Listed.{Listed}
 use Rattle.rowtext.specs.declared.Put.{Put}
@@ -94,13 +96,17 @@ Two = ℤ × (ℤ × Unit {0})
 abbrev pub Five : Type 0
 Five = ℤ × (ℤ × (ℤ × Two))
 
--- "-1, 0, 1, or 100 plus the refusal": what an answer of silvanelga_side refuses by; a number that is none of these counts as it is
-abbrev pub sideRefusalIn : ℤ → ℤ
-sideRefusalIn r = cond (ltZ (pos 100) r) (r -ℤ pos 100) (cond (within (pos 1) r) (pos 0) r)
+-- what an answer that is a number refuses by, where a refusal has 100 added to it; a number that is neither that nor an answer counts as it is
+abbrev pub behindHundred : Bool → ℤ → ℤ
+behindHundred answers r = cond (ltZ (pos 100) r) (r -ℤ pos 100) (cond answers (pos 0) r)
 
--- 1, 2, or 100 plus the refusal: what an answer of silvanelga_trial_form refuses by
+-- "-1, 0, 1, or 100 plus the refusal": of silvanelga_side
+abbrev pub sideRefusalIn : ℤ → ℤ
+sideRefusalIn r = behindHundred (within (pos 1) r) r
+
+-- 1, 2, or 100 plus the refusal: of silvanelga_trial_form
 abbrev pub formRefusalIn : ℤ → ℤ
-formRefusalIn r = cond (ltZ (pos 100) r) (r -ℤ pos 100) (pos 0)
+formRefusalIn r = behindHundred (eqZ r (formNumber Old) || eqZ r (formNumber New)) r
 
 pub record Calls (P : ℤ → Type 0) : Type 0 where
   -- sheet: objects made, objects and lists checked

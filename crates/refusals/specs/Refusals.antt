@@ -196,15 +196,16 @@ number-in : (f : Form) → Known (formRefusalIn (formNumber f))
 number-in Old = one-of 0 refl
 number-in New = one-of 0 refl
 
-told-in : (n : ℕ) → among n (0 ∷ ofBytes) ≡ true → Known (formRefusalIn (pos 100 +ℤ pos n))
-told-in zero e = one-of 0 refl
-told-in (suc n) e = subst Known (sym (hundred-less n _)) (one-among (0 ∷ ofBytes) _ refl (one-of (suc n) e))
+told-in : (n : ℕ) → among n (0 ∷ ofBytes) ≡ true → eqZ (pos n) (pos 0) ≡ false → Known (formRefusalIn (pos 100 +ℤ pos n))
+told-in zero e other = absurd (true≢false other)
+told-in (suc n) e other = subst Known (sym (hundred-less n _)) (one-among (0 ∷ ofBytes) _ refl (one-of (suc n) e))
 
 told-known : (bs : List ℕ) → Known (formRefusalIn (formTold bs))
 told-known bs =
     let o = bytes-refusal bs in
     cond-by (λ (z : ℤ). Known (formRefusalIn z)) (eqZ (readDrawing bs .refusal) (pos 0)) (λ _. number-in (formOf bs))
-    (λ _. subst (λ (z : ℤ). Known (formRefusalIn (pos 100 +ℤ z))) (sym (o .is)) (told-in (o .number) (o .one)))
+    (λ other. subst (λ (z : ℤ). Known (formRefusalIn (pos 100 +ℤ z))) (sym (o .is))
+    (told-in (o .number) (o .one) (ap (λ (z : ℤ). eqZ z (pos 0)) (sym (o .is)) ∙ other)))
 
 -- ---- the calls
 

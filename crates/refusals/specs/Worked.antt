@@ -70,9 +70,11 @@ each-met =
 pub record WorkedForm : Type 0 where
   -- 1, 2, or 100 plus the refusal
   told : (formRefusalIn (pos 1) ≡ pos 0) × (formRefusalIn (pos 2) ≡ pos 0) × (formRefusalIn (pos 115) ≡ pos 15)
+  -- what is none of these is seen as it is
+  form-neither : (formRefusalIn (pos 3) ≡ pos 3) × (formRefusalIn (pos 12) ≡ pos 12) × (formRefusalIn (pos 100) ≡ pos 100)
 
 pub worked-form : WorkedForm
-worked-form = record { told = (refl, refl, refl) }
+worked-form = record { told = (refl, refl, refl); form-neither = (refl, refl, refl) }
 
 pub record WorkedSide : Type 0 where
   -- "-1, 0, 1, or 100 plus the refusal"
