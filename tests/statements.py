@@ -179,7 +179,7 @@ def promised(root):
         if not names:
             yield f'docs/STATEMENTS.md: nothing carries: {row["Promise"]}'
         yield from (f'docs/STATEMENTS.md: {name} is not declared in {row.get("File", "")}' for name in names
-                    if not any(re.search(rf'(?m)^\s*(?:abbrev )?pub (?:record |data )?{re.escape(name)} ', text) for text in texts))
+                    if not any(re.search(rf'(?m)^\s*(?:abbrev |unfoldable )?pub (?:record |data )?{re.escape(name)} ', text) for text in texts))
 
 
 def stands(root, name, place):
