@@ -7,8 +7,10 @@
 --   comes-back          "There and back gives the same bytes", both ways round
 --   moved-told, moved-read   what was moved has the form that was asked for, and is read as the same objects with the same tags
 --   old-meets           "so an old reader refuses with 11"
+--   old-told, read-as-before   what an old reader accepts is exactly what is told to have the old form, so no bytes are accepted in both; and it is
+--                       read as the old reader reads it
 -- Each holds for every room, as in RoundTrip.
-use mathlib.Core.Path.{_≡_, refl, sym, ap, _∙_}
+use mathlib.Core.Path.{_≡_, refl, sym, ap, subst, _∙_}
 use mathlib.Core.Logic.{_⊎_, inl, inr, _↔_}
 use mathlib.Core.List.{List}
 use Prim.Native.Nat.{ℕ}
@@ -27,7 +29,7 @@ use Rattle.store.specs.declared.Written.{Written}
 use Rattle.store.specs.Stored.{Drawing, Untagged, refused, readDrawing, oldReader, formOf, moveRefusal, moved}
 use Rattle.store.specs.Answers.{readAnswer, readInto, moveAnswer, moveInto}
 use Rattle.store.specs.AnswersLaws.{has-form, tells-form}
-use Rattle.store.specs.MoveLaws.{move-new, move-old, move-refused, moved-accepted, own-taken, own-kept, moved-form, moved-objects, back-taken, back-same, old-refuses}
+use Rattle.store.specs.MoveLaws.{move-new, move-old, move-refused, moved-accepted, own-taken, own-kept, moved-form, moved-objects, back-taken, back-same, old-refuses, old-accepts, old-reads}
 use Rattle.store.proofs.RoundTrip.{Puts, puts, puts-not-16, were-put}
 use Rattle.store.proofs.check_drawing.Reads as check-drawing
 use Rattle.store.proofs.form_of.Reads as form-of
@@ -122,3 +124,25 @@ module _ (bytes between : RefT (List ℕ)) (form : Form) (c : WasMoved bytes for
 
 pub old-meets : (κ : Lfts 1) (bytes : RefT (List ℕ)) → form-of.Post κ (bytes, tt) (Has New) (bytes, tt) → oldReader (bytes .now) ≡ refused (pos 11)
 old-meets κ bytes told = old-refuses (bytes .now) (has-form (bytes .now) New told .1)
+
+pub old-told :
+    (κ : Lfts 1) (bytes : RefT (List ℕ)) (answer : Formed) → form-of.Post κ (bytes, tt) answer (bytes, tt)
+    → (oldReader (bytes .now) .refusal ≡ pos 0) ↔ (answer ≡ Has Old)
+old-told κ bytes answer met = (
+  λ h. let is = old-accepts bs h in tells-form bs (ap refusal (sym (is .0)) ∙ h) (is .1) met,
+  λ e. let is = has-form bs Old (subst (λ (a : Formed). form-of.Post κ (bytes, tt) a (bytes, tt)) e met) in ap refusal (old-reads bs (is .0) (is .1)) ∙ is .0,
+)
+  where
+    bs : List ℕ
+    bs = bytes .now
+
+    refusal : Drawing → ℤ
+    refusal d = d .refusal
+
+pub read-as-before :
+    (κs : Lfts 2) (bytes : RefT (List ℕ)) (lent after : RefT (List ℤ)) (answer : Read) → oldReader (bytes .now) .refusal ≡ pos 0
+    → read-drawing.Post κs (bytes, (lent, tt)) answer (bytes, (after, tt))
+    → (answer ≡ readAnswer (oldReader (bytes .now)) (lent .now)) × (after .now ≡ readInto (oldReader (bytes .now)) (lent .now))
+read-as-before κs bytes lent after answer h met =
+    let is = sym (old-accepts (bytes .now) h .0) in
+    (met .0 ∙ ap (λ (d : Drawing). readAnswer d (lent .now)) is, met .1 ∙ ap (λ (d : Drawing). readInto d (lent .now)) is)

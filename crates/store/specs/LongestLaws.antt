@@ -1,6 +1,5 @@
 -- How far a drawing reaches into its bytes. To cite:
 --   no-longer           no drawing is longer than the longest of its form
---   long-refused        bytes that are longer than `longest` are refused
 --   beginning-decides   and by their beginning: `longest` bytes and one more give the same objects and the same refusal, in either form
 --   write-no-longer     what is written in a form is no longer than its longest
 --   longest-most        no form's longest is longer than `longest`
@@ -240,9 +239,6 @@ no-longer bs e =
         → length bs ≤ longestOf (formOf bs)
     go true y m = absurd (drawing-longer bs [] (y refl) .0 e)
     go false y m = m refl
-
-pub long-refused : (bs : List ℕ) → longest < length bs → readDrawing bs .refusal ≡ pos 0 → ⊥
-long-refused bs h e = omega (arith, h, no-longer bs e, longest-most (formOf bs))
 
 -- "reading a prefix of that length and one byte more gives the same refusal"
 pub beginning-decides : (bs : List ℕ) → readDrawing (take (longest + 1) bs) ≡ readDrawing bs

@@ -9,6 +9,7 @@
 --   moved-no-longer   what is moved is no longer than a drawing can be
 --   one-form        no bytes are a drawing of both forms
 --   as-before, old-refuses   an old reader reads as it is read here, or meets 11; and 11 where the bytes have the new form
+--   old-accepts, old-reads   what it accepts has the old form and is read as before; and a drawing of the old form is read by it
 -- Assumes nothing.
 use mathlib.Core.Path.{_≡_, refl, sym, ap, subst, _∙_}
 use mathlib.Core.Logic.{_⊎_, inl, inr, ⊎-elim, _↔_}
@@ -21,6 +22,7 @@ use lib.Dec.{ltb, eqb}
 use lib.IntN.{ℤ, pos}
 use lib.ListN.{length}
 use Rattle.whole.specs.Choice.{orElse}
+use Rattle.whole.specs.Tests.{eqZ-false}
 use Rattle.whole.specs.ChoiceLaws.{or-next, or-zero}
 use Rattle.sheet.specs.Limits.{most}
 use Rattle.sheet.specs.Lists.{width, listRefusal}
@@ -32,6 +34,8 @@ use Rattle.store.specs.Forms.{mark, longest}
 use Rattle.store.specs.Stored.{Drawing, Head, headOf, headIn, refused, counted, formIn, Untagged, tagsRefusal, writeDrawing, writeRefusal, readForm, readCount, readHead, readDrawing, oldReader, formOf, moveRefusal, moved}
 use Rattle.store.specs.TagsLaws.{kept-tags, tags-kept, untagged-kept, kept-untagged, new-keeps, tags-refused}
 use Rattle.store.specs.StoredLaws.{read-written, form-written, read-list, read-taken, written-read}
+use Rattle.store.specs.SureLaws.{Sure, not-nought, sure-count}
+use Rattle.store.specs.SureLaws as sure
 use Rattle.store.specs.LongestLaws.{longest-most, write-no-longer}
 
 module _ (bs : List ℕ) (h : readDrawing bs .refusal ≡ pos 0) where
@@ -118,7 +122,7 @@ one-form l m h k e = apart (sym (form-written Old l h) ∙ ap formOf e ∙ form-
 -- what is found before the objects, and what an old reader finds there
 data Found : Reading Head → Reading Head → Type 0 where
   same : (r : Reading Head) → formIn r ≡ Old → Found r r
-  many : (r : Reading Head) → Found r (no (pos 11))
+  many : (rest : List ℕ) → Found (headIn New rest) (no (pos 11))
 
 found : (bs : List ℕ) → Found (readHead bs) (headIn Old bs)
 unfolding readHead readForm readCount
@@ -141,7 +145,7 @@ found bs = go (readNumber bs) refl
             → Found (next (cond t (got New rest) (got Old bs)) (λ f rest. headIn f rest)) (headIn Old bs)
         second true y =
             let eleven : headIn Old bs ≡ no (pos 11) = ap first e ∙ ap (λ (k : ℕ). first (got k rest)) (y refl) in
-            subst (Found (headIn New rest)) (sym eleven) (many (headIn New rest))
+            subst (Found (headIn New rest)) (sym eleven) (many rest)
         second false y = same (headIn Old bs) (old (readCount bs))
 
 pub as-before : (bs : List ℕ) → (oldReader bs ≡ readDrawing bs) ⊎ (oldReader bs ≡ refused (pos 11))
@@ -150,7 +154,7 @@ as-before bs = go (found bs)
   where
     go : {r s : Reading Head} → Found r s → (counted s ≡ counted r) ⊎ (counted s ≡ refused (pos 11))
     go (same r d) = inl refl
-    go (many r) = inr refl
+    go (many rest) = inr refl
 
 pub old-refuses : (bs : List ℕ) → formOf bs ≡ New → oldReader bs ≡ refused (pos 11)
 unfolding oldReader formOf
@@ -158,4 +162,32 @@ old-refuses bs e = go (found bs) e
   where
     go : {r s : Reading Head} → Found r s → formIn r ≡ New → counted s ≡ refused (pos 11)
     go (same r d) e = absurd (apart (sym d ∙ e))
-    go (many r) e = refl
+    go (many rest) e = refl
+
+pub old-accepts : (bs : List ℕ) → oldReader bs .refusal ≡ pos 0 → (oldReader bs ≡ readDrawing bs) × (formOf bs ≡ Old)
+old-accepts bs h = (
+  ⊎-elim (λ e. e) (λ e. absurd (eleven e)) (as-before bs),
+  form (formOf bs) refl,
+)
+  where
+    eleven : oldReader bs ≡ refused (pos 11) → ⊥
+    eleven e = eqZ-false {a = pos 11} {b = pos 0} refl (sym (ap (λ (d : Drawing). d .refusal) e) ∙ h)
+
+    form : (f : Form) → formOf bs ≡ f → formOf bs ≡ Old
+    form Old e = e
+    form New e = absurd (eleven (old-refuses bs e))
+
+pub old-reads : (bs : List ℕ) → readDrawing bs .refusal ≡ pos 0 → formOf bs ≡ Old → oldReader bs ≡ readDrawing bs
+unfolding readDrawing oldReader formOf
+old-reads bs = go (found bs)
+  where
+    -- behind the mark stands no drawing of the old form
+    behind : {rest : List ℕ} {r : Reading ℕ} → Sure (λ n. n ≤ most) rest r
+        → let h = next r (λ n rest. got (headOf New n) rest) in
+        counted h .refusal ≡ pos 0 → formIn h ≡ Old → ⊥
+    behind (sure.refused m z) h e = eqZ-false (not-nought m z) h
+    behind (sure.read n front rest _ _) h e = apart (sym e)
+
+    go : {r s : Reading Head} → Found r s → counted r .refusal ≡ pos 0 → formIn r ≡ Old → counted s ≡ counted r
+    go (same r d) h e = refl
+    go (many rest) h e = absurd (behind (sure-count rest) h e)

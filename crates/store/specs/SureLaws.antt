@@ -2,7 +2,7 @@
 --   Sure, Any       such a reading; P that holds of all
 --   Kept, Fits      a tag that a form keeps; an accepted object with such a tag
 --   not-nought      such a refusal is not 0
---   sure-number, sure-coordinate, sure-point, sure-fits, sure-object, sure-head   each reading is so
+--   sure-number, sure-coordinate, sure-point, sure-fits, sure-object, sure-count, sure-head   each reading is so
 -- Assumes nothing.
 use mathlib.Core.Path.{_≡_, refl, sym, ap, _∙_}
 use mathlib.Core.Bool.{Bool, true, false, cond, true≢false}
@@ -149,7 +149,7 @@ sure-form bs = go (sure-number bs)
     go (refused n z) = refused n z
     go (read n front rest e u) = sure-cond (eqb n mark) (read New front rest e tt) (λ _. read Old [] bs refl tt)
 
-sure-count : (bs : List ℕ) → Sure (λ n. n ≤ most) bs (readCount bs)
+pub sure-count : (bs : List ℕ) → Sure (λ n. n ≤ most) bs (readCount bs)
 unfolding readCount
 sure-count bs = sure-next (sure-number bs) (λ n rest u. sure-checked (ltb most n) 11 _ rest refl (λ e. ltb-false most n e))
 
