@@ -2,8 +2,8 @@
 import os, re
 
 # Name, and what its listing begins with: the sheet of document 01, a door portal, a sheet with every kind, one in the new form whose layers have
-# tags, a damaged file.
-EXAMPLES = {'worked': 'objects', 'portal': 'objects', 'kinds': 'objects', 'layers': 'objects', 'damaged': 'refused'}
+# tags, an outline with brackets, a damaged file.
+EXAMPLES = {'worked': 'objects', 'portal': 'objects', 'kinds': 'objects', 'layers': 'objects', 'brackets': 'objects', 'damaged': 'refused'}
 FORMS = ('hex', 'drawing', 'listing')
 HOW_MANY = ('no', 'one', 'two', 'three', 'four', 'five', 'six', 'seven', 'eight')[len(EXAMPLES)]
 
