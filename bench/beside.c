@@ -1,14 +1,20 @@
 /* Times the listings and the drawings of two builds of this library in turn, in one process: what is timed, and the nanoseconds of both, a
-   pair of a listing and a byte of a drawing. Drawings are compared in the old form, with tags of 0, and in the new form with tags of three
-   layers where the other build has it: bench/beside then defines OTHER_HAS_FORMS. */
+   pair of a listing and a byte of a drawing. Listings are compared with joints, and without where the other build can leave them out: bench/beside
+   then defines OTHER_HAS_JOINTS. Drawings are compared in the old form, with tags of 0, and in the new form with tags of three layers where the
+   other build has it: bench/beside then defines OTHER_HAS_FORMS. */
 #include "sheets.h"
 #include <string.h>
 
-int64_t silvanelga_trial_list(const int64_t *list, size_t length, int64_t *rows, size_t room);
+struct listed { int64_t refusal; size_t rows, length; };
+struct listed silvanelga_trial_list(const int64_t *list, size_t length, bool joints, int64_t *rows, size_t room);
 int64_t silvanelga_trial_read(const uint8_t *bytes, size_t length, int64_t *list, size_t room);
 int64_t silvanelga_trial_write(int64_t form, const int64_t *list, size_t length, uint8_t *bytes, size_t room);
-int64_t other_list(const int64_t *list, size_t length, int64_t *rows, size_t room);
 int64_t other_read(const uint8_t *bytes, size_t length, int64_t *list, size_t room);
+#ifdef OTHER_HAS_JOINTS
+struct listed other_list(const int64_t *list, size_t length, bool joints, int64_t *rows, size_t room);
+#else
+int64_t other_list(const int64_t *list, size_t length, int64_t *rows, size_t room);
+#endif
 #ifdef OTHER_HAS_FORMS
 int64_t other_write(int64_t form, const int64_t *list, size_t length, uint8_t *bytes, size_t room);
 #define OTHER_WRITE(form, ...) other_write(form, __VA_ARGS__)
@@ -21,6 +27,30 @@ enum { LIST_LENGTH = 14 }; /* the refusal */
 
 static int64_t list[NUMBERS], back[NUMBERS], rows[ROW * PAIRS], other[ROW * PAIRS];
 static uint8_t bytes[BYTES], again[BYTES];
+
+/* the other build's refusal of a listing */
+static inline int64_t list_other(bool joints)
+{
+#ifdef OTHER_HAS_JOINTS
+    return other_list(list, NUMBERS, joints, other, ROW * PAIRS).refusal;
+#else
+    (void)joints;
+    return other_list(list, NUMBERS, other, ROW * PAIRS);
+#endif
+}
+
+static void race_listing(const char *name, bool joints)
+{
+    double ours = 0, theirs = 0;
+    memset(rows, 1, sizeof rows), memset(other, 1, sizeof other);
+    if (silvanelga_trial_list(list, NUMBERS, joints, rows, ROW * PAIRS).refusal != 0) fail("a sheet was refused");
+    int64_t refusal = list_other(joints);
+    if (refusal == LIST_LENGTH) fail("an object of the other build has more or fewer numbers");
+    if (refusal != 0) fail("the other build refused a sheet");
+    if (memcmp(rows, other, sizeof rows) != 0) fail("the two listings differ");
+    RACE(silvanelga_trial_list(list, NUMBERS, joints, rows, ROW * PAIRS), list_other(joints), ours, theirs)
+    printf("%s%s\t%.3f\t%.3f\n", name, joints ? "" : ", no joints", theirs / PAIRS, ours / PAIRS);
+}
 
 /* the drawing of a sheet: written into more bytes than it needs, into as many as it needs, into none, and read */
 static void race_drawings(const char *name, int64_t form)
@@ -57,16 +87,11 @@ static void race_sheet(const char *name, const char *new_name, void (*make)(int6
 int main(void)
 {
     for (int k = 0; k < SHEETS; k++) {
-        double ours = 0, theirs = 0;
         make_sheet(list, sheets[k].make, LAYERS);
-        memset(rows, 1, sizeof rows), memset(other, 1, sizeof other);
-        if (silvanelga_trial_list(list, NUMBERS, rows, ROW * PAIRS) != 0) fail("a sheet was refused");
-        int64_t refusal = other_list(list, NUMBERS, other, ROW * PAIRS);
-        if (refusal == LIST_LENGTH) fail("an object of the other build has more or fewer numbers");
-        if (refusal != 0) fail("the other build refused a sheet");
-        if (memcmp(rows, other, sizeof rows) != 0) fail("the two listings differ");
-        RACE(silvanelga_trial_list(list, NUMBERS, rows, ROW * PAIRS), other_list(list, NUMBERS, other, ROW * PAIRS), ours, theirs)
-        printf("%s\t%.3f\t%.3f\n", sheets[k].name, theirs / PAIRS, ours / PAIRS);
+        race_listing(sheets[k].name, true);
+#ifdef OTHER_HAS_JOINTS
+        race_listing(sheets[k].name, false);
+#endif
     }
     race_sheet("mixed", "mixed new", sides);
     race_sheet("near", "near new", grid);

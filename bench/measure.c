@@ -2,8 +2,9 @@
 #include "sheets.h"
 #include <string.h>
 
-/* each answers its refusal, 0 for none; a move the length of what it put, too */
-int64_t silvanelga_trial_list(const int64_t *list, size_t length, int64_t *rows, size_t room);
+/* each answers its refusal, 0 for none; a listing the count of its rows and a move the length of what it put, too */
+struct listed { int64_t refusal; size_t rows, length; };
+struct listed silvanelga_trial_list(const int64_t *list, size_t length, bool joints, int64_t *rows, size_t room);
 int64_t silvanelga_trial_read(const uint8_t *bytes, size_t length, int64_t *list, size_t room);
 int64_t silvanelga_trial_write(int64_t form, const int64_t *list, size_t length, uint8_t *bytes, size_t room);
 struct moved { int64_t refusal; size_t length; };
@@ -11,19 +12,19 @@ struct moved silvanelga_trial_move(const uint8_t *bytes, size_t length, int64_t 
 
 enum { CGAL_TURNS = 7 };
 
-static int64_t list[NUMBERS], back[NUMBERS], rows[ROW * PAIRS], other[ROW * PAIRS];
+static int64_t listed_sheets[SHEETS][NUMBERS], list[NUMBERS], back[NUMBERS], rows[ROW * PAIRS], other[ROW * PAIRS];
 static uint8_t bytes[BYTES], again[BYTES], out[BYTES];
 
 #ifdef WITH_CGAL
 int64_t cgal_list(const int64_t *list, size_t length);
 
 /* how many times as long CGAL takes, by the least of its turns too */
-static void beside_cgal(int64_t count, double ours)
+static void beside_cgal(const int64_t *sheet, int64_t count, double ours)
 {
     double least = 0;
     for (int t = 0; t < CGAL_TURNS; t++) {
         double began = now();
-        if (cgal_list(list, NUMBERS) != count) fail("CGAL finds another number of pairs");
+        if (cgal_list(sheet, NUMBERS) != count) fail("CGAL finds another number of pairs");
         double took = now() - began;
         if (t == 0 || took < least) least = took;
     }
@@ -31,9 +32,34 @@ static void beside_cgal(int64_t count, double ours)
 }
 #define CGAL_COLUMNS "         CGAL  faster"
 #else
-static void beside_cgal(int64_t count, double ours) { (void)count, (void)ours; }
+static void beside_cgal(const int64_t *sheet, int64_t count, double ours) { (void)sheet, (void)count, (void)ours; }
 #define CGAL_COLUMNS ""
 #endif
+
+/* how many times as long a listing takes that leaves joints out as one that has them */
+static void beside_joints(const int64_t *sheet)
+{
+    double without = 0, with = 0;
+    RACE(silvanelga_trial_list(sheet, NUMBERS, false, rows, ROW * PAIRS), silvanelga_trial_list(sheet, NUMBERS, true, other, ROW * PAIRS),
+         without, with)
+    printf(" %10.2f", without / with);
+}
+
+/* a row of a listings' table */
+static void race_listing(const char *name, const int64_t *sheet, bool joints)
+{
+    double ours = 0, plain = 0;
+    memset(rows, 1, sizeof rows), memset(other, 1, sizeof other);
+    int64_t n = plain_list(sheet, NUMBERS, joints, other, ROW * PAIRS);
+    struct listed listed = silvanelga_trial_list(sheet, NUMBERS, joints, rows, ROW * PAIRS);
+    if (n < 0 || listed.refusal != 0) fail("a sheet was refused");
+    if (listed.rows != (size_t)n || memcmp(rows, other, sizeof rows) != 0) fail("the two listings differ");
+    RACE(silvanelga_trial_list(sheet, NUMBERS, joints, rows, ROW * PAIRS), plain_list(sheet, NUMBERS, joints, other, ROW * PAIRS), ours, plain)
+    printf("%-12s %9lld %12.2f %12.2f %7.2f", name, (long long)n, ours / PAIRS, plain / PAIRS, ours / plain);
+    if (joints) beside_cgal(sheet, n, ours);
+    else beside_joints(sheet);
+    printf("\n");
+}
 
 /* a row of the drawings' table: of so many bytes, by the time a byte */
 static void say(const char *what, size_t size, double ours, double plain)
@@ -69,19 +95,11 @@ static void race_move(const char *move, int64_t from, int64_t to)
 
 int main(void)
 {
+    for (int k = 0; k < SHEETS; k++) make_sheet(listed_sheets[k], sheets[k].make, LAYERS);
     printf("%-12s %9s %12s %12s %7s%s\n", "listing", "rows", "ns a pair", "plain C", "ratio", CGAL_COLUMNS);
-    for (int k = 0; k < SHEETS; k++) {
-        double ours = 0, plain = 0;
-        make_sheet(list, sheets[k].make, LAYERS);
-        memset(rows, 1, sizeof rows), memset(other, 1, sizeof other);
-        int64_t n = plain_list(list, NUMBERS, other, ROW * PAIRS);
-        if (n < 0 || silvanelga_trial_list(list, NUMBERS, rows, ROW * PAIRS) != 0) fail("a sheet was refused");
-        if (memcmp(rows, other, sizeof rows) != 0) fail("the two listings differ");
-        RACE(silvanelga_trial_list(list, NUMBERS, rows, ROW * PAIRS), plain_list(list, NUMBERS, other, ROW * PAIRS), ours, plain)
-        printf("%-12s %9lld %12.2f %12.2f %7.2f", sheets[k].name, (long long)n, ours / PAIRS, plain / PAIRS, ours / plain);
-        beside_cgal(n, ours);
-        printf("\n");
-    }
+    for (int k = 0; k < SHEETS; k++) race_listing(sheets[k].name, listed_sheets[k], true);
+    printf("\n%-12s %9s %12s %12s %7s %10s\n", "no joints", "rows", "ns a pair", "plain C", "ratio", "to listing");
+    for (int k = 0; k < SHEETS; k++) race_listing(sheets[k].name, listed_sheets[k], false);
 
     /* the same objects every time: with tags of 0, as the old form and a move to it need them; of three layers; and with tags of any size */
     make_sheet(list, sides, ONE_LAYER);

@@ -1,6 +1,5 @@
 /* Plain C of the same algorithms; see plain.h. */
 #include "plain_numbers.h"
-#include <stdbool.h>
 
 typedef struct { int64_t kind, px, py, qx, qy, tag; } object;
 typedef enum { NOTHING, ONCE, MANY } what;
@@ -101,6 +100,23 @@ static meeting cross(const object *a, const object *b)
     return once(divide(0, nx, 0, ny, w));
 }
 
+/* ---- joints */
+
+/* a point off the frame is no far end, and an end only where it is p or q */
+static bool is_near_end(const object *o, const point *e)
+{
+    return (o->kind <= 2 && e->nx == o->px && e->ny == o->py) || (o->kind == 1 && e->nx == o->qx && e->ny == o->qy);
+}
+
+/* Whether the one point that two objects share is an end of both. On the frame one of the two is a side, for two others that share one point do
+   so near the origin; what is no side ends there, and a side does where the point is a corner. */
+static bool is_joint(const object *a, const object *b, const point *e)
+{
+    if (e->w != 1) return false;
+    if (e->mx == 0 && e->my == 0) return is_near_end(a, e) && is_near_end(b, e);
+    return e->mx != 0 && e->my != 0 && e->nx == 0 && e->ny == 0;
+}
+
 /* ---- the listing */
 
 static object object_at(const int64_t *list, size_t i)
@@ -121,7 +137,7 @@ static int64_t list_refusal(const int64_t *list, size_t length)
     return 0;
 }
 
-int64_t plain_list(const int64_t *list, size_t length, int64_t *rows, size_t room)
+int64_t plain_list(const int64_t *list, size_t length, bool joints, int64_t *rows, size_t room)
 {
     int64_t no = list_refusal(list, length);
     if (no != 0) return -no;
@@ -132,7 +148,7 @@ int64_t plain_list(const int64_t *list, size_t length, int64_t *rows, size_t roo
         for (size_t j = i + 1; j < count; j++) {
             object b = object_at(list, j);
             meeting m = cross(&a, &b);
-            if (m.what == NOTHING) continue;
+            if (m.what == NOTHING || (m.what == ONCE && !joints && is_joint(&a, &b, &m.e))) continue;
             int64_t *row = rows + at;
             row[0] = (int64_t)i, row[1] = (int64_t)j, row[2] = m.what == ONCE ? 1 : 2;
             if (m.what == ONCE) {

@@ -2,6 +2,7 @@
    write. The measure that the proved code is held against. */
 #ifndef PLAIN_H
 #define PLAIN_H
+#include <stdbool.h>
 #include <stddef.h>
 #include <stdint.h>
 
@@ -9,8 +10,8 @@ enum { WIDTH = 6, ROW = 10, MOST = 512, REACH = 2000, LAST_TAG = 2000000 };
 enum { TAG = WIDTH - 1 }; /* where it stands among the numbers of an object; p and q stand between the kind and it */
 enum { OLD = 1, NEW = 2 }; /* the forms of a stored drawing */
 
-/* the rows of all sharing pairs; their count, or minus the refusal */
-int64_t plain_list(const int64_t *list, size_t length, int64_t *rows, size_t room);
+/* the rows of all sharing pairs, without joints unless they are asked for; their count, or minus the refusal */
+int64_t plain_list(const int64_t *list, size_t length, bool joints, int64_t *rows, size_t room);
 /* a stored drawing of either form read, written in a form, and moved to a form; the count of numbers or bytes, or minus the refusal */
 int64_t plain_read(const uint8_t *bytes, size_t length, int64_t *list, size_t room);
 int64_t plain_write(int64_t form, const int64_t *list, size_t length, uint8_t *bytes, size_t room);

@@ -6,6 +6,11 @@
 
 enum { NUMBERS = WIDTH * MOST, PAIRS = MOST * (MOST - 1) / 2, BYTES = 4 + 12 * MOST };
 
+static void set(int64_t *o, int64_t kind, int64_t px, int64_t py, int64_t qx, int64_t qy)
+{
+    o[0] = kind, o[1] = px, o[2] = py, o[3] = qx, o[4] = qy;
+}
+
 static void pair(int64_t *o, int64_t kind, int64_t reach)
 {
     o[0] = kind;
@@ -20,7 +25,7 @@ static void grid(int64_t *o, int i) { (void)i; pair(o, pick(1, 3), 3); }
 static void sides(int64_t *o, int i)
 {
     if (i % 4 != 0) { uniform(o, i); return; }
-    o[0] = 4, o[1] = pick(1, 4), o[2] = o[3] = o[4] = 0;
+    set(o, 4, pick(1, 4), 0, 0, 0);
 }
 static void chains(int64_t *o, int i)
 {
@@ -31,8 +36,20 @@ static void chains(int64_t *o, int i)
     o[3] = x, o[4] = y;
 }
 
+/* nearly every point that two share is an end of both: in each of four fans all objects begin, or all end, in one place; sides have corners in
+   common, and rays and lines go into these */
+static void corners(int64_t *o, int i)
+{
+    int64_t fan = i % 4, x = 600 * fan - 900, y = 600, far_x = x + i / 4 - 64, far_y = y + 65;
+    if (i % 16 == 0) set(o, 4, 1 + i / 16 % 4, 0, 0, 0);
+    else if (i % 16 == 8) set(o, 2 + i / 16 % 2, 0, 0, i / 32 % 2 == 0 ? 1 : -1, i / 64 % 2 == 0 ? 1 : -1);
+    else if (fan == 1) set(o, 2, x, y, far_x, far_y);
+    else if (fan == 2) set(o, 1, far_x, far_y, x, y);
+    else set(o, 1, x, y, far_x, far_y);
+}
+
 static const struct { const char *name; void (*make)(int64_t *, int); } sheets[] = {
-    {"uniform", uniform}, {"lines only", lines}, {"grid", grid}, {"chains", chains}, {"with sides", sides}};
+    {"uniform", uniform}, {"lines only", lines}, {"grid", grid}, {"chains", chains}, {"with sides", sides}, {"corners", corners}};
 enum { SHEETS = sizeof sheets / sizeof *sheets };
 
 /* a sheet whose objects are of so many layers in turn: of one layer the tags are all 0, and it can be stored in the old form */

@@ -1,31 +1,44 @@
-/* How many instructions a listing takes. Two listings of one sheet, whose pairs all share something: into no room, which is refused with 10
-   after one crossing a pair, and into room for exactly every pair, which is to take one crossing a pair as well.
-   Standard output: how many pairs, and both counts. */
+/* How many instructions a listing takes, of all pairs and of one object with all later ones. Listings of two sheets, in which every two objects
+   share one point, which is a joint for none or for all: into no room, asked for joints, which is refused with 10 after one crossing a pair; and
+   into room for exactly every pair, with joints and without, which is to take one crossing a pair as well.
+   Standard output, a line for each sheet and either listing: how many pairs, and the three counts. */
 #include "steps.h"
 #include "trial.h"
 #include <stdio.h>
 #include <stdlib.h>
 
-enum { OBJECTS = 24, PAIRS = OBJECTS * (OBJECTS - 1) / 2, SHORT = 10 };
+enum { OBJECTS = 24, PAIRS = OBJECTS * (OBJECTS - 1) / 2, LATER = OBJECTS - 1, SHORT = 10 };
+enum { LINES, STAR, SHEETS }; /* lines with a slope each, and rays from one place with a slope each */
 
-static long counted(const int64_t *list, int64_t *rows, size_t room, int64_t due)
+static int64_t list[OBJECTS * WIDTH], rows[PAIRS * ROW];
+
+static long counted(bool one, bool joints, size_t room, int64_t refusal, size_t count)
 {
-    int64_t refusal;
-    COUNTED(refusal = silvanelga_trial_list(list, OBJECTS * WIDTH, rows, room));
-    if (refusal != due) exit(2);
+    struct listed listed;
+    if (one) COUNTED(listed = silvanelga_trial_one(list, OBJECTS * WIDTH, 0, joints, rows, room));
+    else COUNTED(listed = silvanelga_trial_list(list, OBJECTS * WIDTH, joints, rows, room));
+    if (listed.refusal != refusal || listed.rows != count) exit(2);
     return steps;
+}
+
+static void say(bool one, size_t pairs, bool all_joints)
+{
+    long refused = counted(one, true, 0, SHORT, 0);
+    long with = counted(one, true, pairs * ROW, 0, pairs);
+    long without = counted(one, false, pairs * ROW, 0, all_joints ? 0 : pairs);
+    printf("%zu %ld %ld %ld\n", pairs, refused, with, without);
 }
 
 int main(void)
 {
-    static int64_t list[OBJECTS * WIDTH], rows[PAIRS * ROW];
-    for (int k = 0; k < OBJECTS; k++) { /* lines with a slope each: every two share one point */
-        int64_t line[WIDTH] = {3, 7 * k, -11 * k, 7 * k + 100, k - 11 * k, k};
-        for (int n = 0; n < WIDTH; n++) list[WIDTH * k + n] = line[n];
-    }
     count_steps();
-    long refused = counted(list, rows, 0, SHORT);
-    long filled = counted(list, rows, PAIRS * ROW, 0);
-    printf("%d %ld %ld\n", PAIRS, refused, filled);
+    for (int sheet = LINES; sheet < SHEETS; sheet++) {
+        for (int k = 0; k < OBJECTS; k++) {
+            const int64_t objects[SHEETS][WIDTH] = {{3, 7 * k, -11 * k, 7 * k + 100, k - 11 * k, k}, {2, 5, -7, 105, k - 7, k}};
+            for (int n = 0; n < WIDTH; n++) list[WIDTH * k + n] = objects[sheet][n];
+        }
+        say(false, PAIRS, sheet == STAR);
+        say(true, LATER, sheet == STAR);
+    }
     return 0;
 }

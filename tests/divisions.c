@@ -64,13 +64,13 @@ int main(void)
             COUNTED(divisor = before_divisor(n));
             if (place.refusal == 0 && divisor != 1) fail("a point has a divisor");
         } else {
-            int64_t refusal;
+            struct listed listed;
             read_numbers(list, OBJECTS * WIDTH);
             read_numbers(n, NUMBERS);
-            COUNTED(refusal = silvanelga_trial_list(list, OBJECTS * WIDTH, row, ROW));
+            COUNTED(listed = silvanelga_trial_list(list, OBJECTS * WIDTH, true, row, ROW));
             library = divisions;
             COUNTED(before_divided(n));
-            if (refusal != 0 || row[2] != ONE_POINT || memcmp(row + 3, n, sizeof n) != 0) fail("a pair shares another point");
+            if (listed.refusal != 0 || row[2] != ONE_POINT || memcmp(row + 3, n, sizeof n) != 0) fail("a pair shares another point");
         }
         printf("%ld %ld\n", library, divisions);
     }

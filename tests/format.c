@@ -1,9 +1,8 @@
-/* One call of the library, for the examples of docs/FORMAT.md. Arguments: what is called, `read`, `form`, `list`, `write` or `move`; the form
-   `old` or `new`, which write and move alone look at; how many cells, or bytes of a drawing, are lent for the answer; and the bytes of a
-   drawing, or for `list` and `write` the numbers of a list of objects. Prints the number that is answered, for `move` the length too, and what
-   was lent afterwards, the bytes of a drawing in hex: each held 7. */
+/* One call of the library, for the examples of docs/FORMAT.md. Arguments: what is called, `read`, `form`, `list`, `joints`, which is a listing that
+   asks for them, `write` or `move`; the form `old` or `new`, which write and move alone look at; how many cells, or bytes of a drawing, are lent
+   for the answer; and the bytes of a drawing, or for a listing and for `write` the numbers of a list of objects. Prints the number that is
+   answered, for `move` the length too, and what was lent afterwards, the bytes of a drawing in hex: each held 7. */
 #include "trial.h"
-#include <stdbool.h>
 #include <stdio.h>
 #include <stdlib.h>
 #include <string.h>
@@ -32,7 +31,7 @@ int main(int count, char **arguments)
         int64_t answer = writes                      ? silvanelga_trial_write(form, list, length, drawing, room)
                          : strcmp(what, "read") == 0 ? silvanelga_trial_read(bytes, length, cells, room)
                          : strcmp(what, "form") == 0 ? silvanelga_trial_form(bytes, length)
-                                                     : silvanelga_trial_list(list, length, cells, room);
+                                                     : silvanelga_trial_list(list, length, strcmp(what, "joints") == 0, cells, room).refusal;
         printf("%lld", (long long)answer);
     }
     for (size_t k = 0; k < room; k++) {

@@ -55,6 +55,13 @@ def list_refusals(numbers):
         yield from object_refusals(*one)
 
 
+def one_refusals(numbers, i):
+    """A list, of which object i is meant: its own, then 13."""
+    yield from list_refusals(numbers)
+    if not 0 <= i < len(objects_in(numbers)):
+        yield 13
+
+
 def form_refusals(objects, form):
     """16 where there is a tag other than 0, for which the old form alone has no place."""
     if form == OLD and any(tag != 0 for *_, tag in objects):
@@ -315,41 +322,53 @@ def numbers(places):
     return tuple(int(part * w) for part in parts) + (w,)
 
 
+def agreed(found):
+    """What is found at both frames."""
+    first, second = found
+    assert first == second, 'the two frames disagree'
+    return first
+
+
 def crossing(a, b, pieces):
     """None, 'many', or the five numbers. `pieces[i][k]` is object i cut at frame k."""
-    found = [share(pieces[a][k], pieces[b][k]) for k in (0, 1)]
-    kinds = [x if x in (None, 'many') else 'point' for x in found]
-    assert kinds[0] == kinds[1], 'the two frames disagree'
-    if kinds[0] != 'point':
+    found = [share(*cut_there) for cut_there in zip(pieces[a], pieces[b])]
+    if agreed(what if what in (None, 'many') else 'point' for what in found) != 'point':
         return found[0]
     point = numbers(found)
     assert refusal(point_refusals(*point)) == 0, f'a crossing outside the limits for points: {point}'
     return point
 
 
-def rows(objects):
-    """For each pair that shares something i, j, what it shares, and the tags of i and j."""
+def is_joint(a, b, pieces):
+    """Whether the single place that two objects share is an end of both."""
+    return agreed(share(one, other) in {*one} & {*other} for one, other in zip(pieces[a], pieces[b]))
+
+
+def rows(objects, joints=True, only=None):
+    """For each pair that shares something i, j, what it shares, and the tags of i and j: of all pairs, or of one object i with all later ones.
+    Joints are left out where they are not asked for."""
     pieces = [[cut(o, R) for R in FRAMES] for o in objects]
-    for i in range(len(objects)):
+    for i in range(len(objects)) if only is None else [only]:
         for j in range(i + 1, len(objects)):
             what = crossing(i, j, pieces)
-            if what is not None:
+            if what is not None and (joints or not is_joint(i, j, pieces)):
                 yield i, j, what, objects[i][-1], objects[j][-1]
 
 
-def row_numbers(objects):
+def row_numbers(objects, joints=True, only=None):
     """Each row is ten numbers: i, j, 1 for point or 2 for many, the five numbers (0 for many), and the tags of i and j."""
-    return [number for i, j, what, *tags in rows(objects) for number in (i, j, *((2, 0, 0, 0, 0, 0) if what == 'many' else (1, *what)), *tags)]
+    return [number for i, j, what, *tags in rows(objects, joints, only)
+            for number in (i, j, *((2, 0, 0, 0, 0, 0) if what == 'many' else (1, *what)), *tags)]
 
 
 def listing(data):
-    """What the program `list` prints for these bytes."""
+    """What the program `list` prints for these bytes. It asks for joints."""
     try:
         objects = read(data)
     except Refused as no:
         return f'refused {no.number}\n'
     lines = [f'objects {len(objects)}']
-    for i, j, what, *tags in rows(objects):
+    for i, j, what, *tags in rows(objects, joints=True):
         lines.append(' '.join(map(str, (i, j, *(['many'] if what == 'many' else ['point', *what]), *tags))))
     lines.append(f'rows {len(lines) - 1}')
     return '\n'.join(lines) + '\n'

@@ -25,12 +25,14 @@ def objects(rng, reach, kinds, most):
 
 
 def diagonal(rng, most):
-    """Lines at 45 degrees, many into corners, on few levels."""
-    made = []
+    """Lines at 45 degrees, many into corners, on few levels, and the four sides, in any order."""
+    made = [(4, n, 0, 0, 0, 0) for n in range(1, 5)]
     for _ in range(rng.randint(0, most)):
-        x, y, step = rng.randint(-2, 2), rng.randint(-2, 2), rng.choice((-3, -1, 1, 2))
+        x, step = rng.randint(-2, 2), rng.choice((-3, -1, 1, 2))
+        y = rng.choice((x, -x, rng.randint(-2, 2)))
         made.append((rng.choice((1, 2, 3)), x, y, x + step, y + rng.choice((step, -step)), 0))
-    return made + [(4, n, 0, 0, 0, 0) for n in range(1, 5)]
+    rng.shuffle(made)
+    return made
 
 
 def chain(rng, most):
@@ -40,6 +42,28 @@ def chain(rng, most):
         dx, dy = rng.choice(((1, 0), (0, 1), (-1, 0), (2, 0), (1, 1), (-1, 1)))
         made.append((rng.choice((1, 1, 1, 2)), x, y, x + dx, y + dy, 0))
         x, y = x + dx, y + dy
+    return made
+
+
+def outline(rng, most):
+    """A closed outline, and brackets from its corners and from places around, some of them on an edge; in any order, with arrows either way."""
+    places = [(x, y) for x in range(-2, 3) for y in range(-2, 3)]
+    corners = rng.sample(places, rng.randint(3, most))
+    drawn = [(1, *edge) for edge in zip(corners, corners[1:] + corners[:1])]
+    for start in rng.sample(corners, rng.randint(0, 2)) + rng.sample(places, rng.randint(0, 2)):
+        drawn.append((rng.choice((1, 2)), start, rng.choice([place for place in places if place != start])))
+    rng.shuffle(drawn)
+    return [(kind, *p, *q, 0) for kind, *ends in drawn for p, q in [rng.sample(ends, 2)]]
+
+
+def star(rng, most):
+    """Segments, rays and lines from one place, or to it, some of them back to back."""
+    x, y = (rng.randint(4 - REACH, REACH - 4) for _ in (0, 1))
+    made = []
+    for _ in range(rng.randint(2, most)):
+        (dx, dy), size = rng.choice(((1, 0), (0, 1), (1, 1), (-2, 1))), rng.choice((-2, -1, 1, 2))
+        p, q = rng.sample([(x, y), (x + size * dx, y + size * dy)], 2)
+        made.append((rng.choice((1, 1, 2, 2, 3)), *p, *q, 0))
     return made
 
 
@@ -57,7 +81,7 @@ def wide(rng, most):
 
 def sheet(rng):
     """With tags that are all 0, so that it can be stored in either form."""
-    which = rng.randrange(7)
+    which = rng.randrange(9)
     if which == 0:
         return objects(rng, 2, (1, 2, 3), 10)
     if which == 1:
@@ -69,6 +93,10 @@ def sheet(rng):
     if which == 4:
         return chain(rng, 9)
     if which == 5:
+        return outline(rng, 6)
+    if which == 6:
+        return star(rng, 7)
+    if which == 7:
         return wide(rng, 8)
     return objects(rng, 40, (3, 4), 8)
 

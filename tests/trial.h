@@ -1,14 +1,21 @@
 /* The calls of the crate `trial`, how many numbers their lists have, of an object and of a row of a listing, and the forms of a stored drawing. */
 #ifndef TRIAL_H
 #define TRIAL_H
+#include <stdbool.h>
 #include <stddef.h>
 #include <stdint.h>
 
 enum { WIDTH = 6, ROW = 10 };
 enum { OLD = 1, NEW = 2 }; /* any other number that is given as a form is taken as the old one */
 
+/* the refusal, how many rows there are, and how many numbers they are; with refusal 10 the length that is needed and no rows */
+struct listed { int64_t refusal; size_t rows, length; };
+
+/* the rows of all pairs, and of object i with all later ones; joints are left out unless they are asked for */
+struct listed silvanelga_trial_list(const int64_t *list, size_t length, bool joints, int64_t *rows, size_t room);
+struct listed silvanelga_trial_one(const int64_t *list, size_t length, size_t i, bool joints, int64_t *rows, size_t room);
+
 /* each answers its refusal, 0 for none; a drawing is read in either form, and written in the one that is given */
-int64_t silvanelga_trial_list(const int64_t *list, size_t length, int64_t *rows, size_t room);
 int64_t silvanelga_trial_read(const uint8_t *bytes, size_t length, int64_t *list, size_t room);
 int64_t silvanelga_trial_write(int64_t form, const int64_t *list, size_t length, uint8_t *bytes, size_t room);
 

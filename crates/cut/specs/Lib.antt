@@ -4,6 +4,7 @@ pub mod Place
 pub mod Cut
 pub mod Ordinary
 pub mod Claims
+pub mod Joined
 pub mod WorkedBounds
 pub mod WorkedRound
 -- lines, places and the square
@@ -33,3 +34,4 @@ pub mod CrossingAt
 -- the demand
 pub mod Demand
 pub mod Swap
+pub mod JointAt

@@ -1,12 +1,13 @@
 -- What the code's answers mean at a concrete R. To cite:
 --   smaller-frame  for every R of 1,000,000,000,000,000 or more and every input, an answer that meets the contract of ends, order, side or
---                  crossing is what the cut pieces at R say, or the refusal that the paper names
+--                  crossing, joints left out or not, is what the cut pieces at R say, or the refusal that the paper names
 --   demand         demand 3: for every R of 2,000,000,000,000,000,000 or more the same, and turn and side of circle too
 --   circle-means   what a side of circle that is answered says of the circle through the three places: outside, on it or inside
 --   at-the-smaller-bound, at-the-bound   the two bounds are among them
 --   smallest       all but these two holds from b on exactly where b is above 256,000,008,000,000
 -- The contracts are the functions' own (`Post`), which the kernel's code is proved to meet.
 use mathlib.Core.Path.{_≡_, refl, sym, ap, _∙_, subst}
+use mathlib.Core.Bool.{Bool, true, false, cond, true≢false}
 use mathlib.Core.Logic.{_⊎_, inl, inr, _↔_}
 use mathlib.Core.List.{[], _∷_, _++_}
 use lib.IntN.{ℤ, pos}
@@ -31,6 +32,8 @@ use Rattle.sheet.specs.Meetings.{crossingBy, meetingBy}
 use Rattle.sheet.specs.AnswersLaws.{by-answer, ends-one, signed-one, crossing-one, crossing-says, crossing-met}
 use Rattle.sheet.specs.AcceptsLaws.{order-taken, turn-taken, side-taken, cross-taken, taken-cross}
 use Rattle.sheet.specs.Crossing.{Meeting, none, point, many, crossingOf, crossingRefusal}
+use Rattle.sheet.specs.Joint.{joint, kept}
+use Rattle.sheet.specs.JointLaws.{kept-asked, kept-left}
 use Rattle.whole.specs.Order.{≤-trans, <-≤-trans, le-or-lt}
 use Rattle.cut.specs.Place.{put, Spot, placeOf}
 use Rattle.cut.specs.Ordinary.{Centre, SideByDistance}
@@ -39,8 +42,9 @@ use Rattle.cut.specs.Round.{round}
 use Rattle.cut.specs.Claims.{EndsHold, CrossingHolds, Holds, DemandAt}
 use Rattle.cut.specs.Bounds.{orderNeed}
 use Rattle.cut.specs.Demand.{from-need, demand-3}
+use Rattle.cut.specs.JointAt.{joint-at}
 use Rattle.kernel.proofs.circle.side_of_circle.Reads as side-of-circle
-use Rattle.demand.specs.Said.{PieceEnds, EndsSaid, ends-refused, ends-given, OrderSaid, order-refused, order-given, TurnSaid, turn-refused, turn-given, CircleSaid, circle-refused, circle-given, SideSaid, side-refused, side-given, Exactly, CrossSaid, cross-refused, cross-given, CodeHolds, CodeAt}
+use Rattle.demand.specs.Said.{PieceEnds, EndsSaid, ends-refused, ends-given, OrderSaid, order-refused, order-given, TurnSaid, turn-refused, turn-given, CircleSaid, circle-refused, circle-given, SideSaid, side-refused, side-given, Exactly, CrossSaid, cross-refused, cross-given, ExactlyButJoints, KeptSaid, kept-refused, all-given, joints-left-out, CodeHolds, CodeAt}
 use Rattle.demand.specs.WorkedBounds.{orders-fail}
 
 -- ---- a crossing as it is answered
@@ -114,6 +118,33 @@ module _ (R : ℤ) (d : Holds R) where
       (λ z. let t = cross-taken a b z in cross-given z (exactly (d .crossings a b (t .0) (t .1))))
       (cross-refused refl)
 
+  -- ---- joints left out, or not
+
+  but-joints : {a b : Object} → Accepted a → Accepted b → ExactlyButJoints R a b (crossingBy (kept false a b))
+  but-joints {a} {b} s t =
+      subst (λ (m : Meeting). ExactlyButJoints R a b (crossingBy m)) (sym (kept-left a b)) (go (joint a b) refl)
+    where
+      go : (y : Bool) → joint a b ≡ y → ExactlyButJoints R a b (crossingBy (cond y none (crossingOf a b)))
+      go true e = record { of-joint = λ j. refl; of-other = λ n. absurd (n (joint-at d s t .0 e)) }
+      go false e = record {
+        of-joint = λ j. absurd (true≢false (sym (joint-at d s t .1 j) ∙ e));
+        of-other = λ n. exactly (d .crossings a b s t);
+      }
+
+  kept-said :
+      (a b : Object) (joints : Bool) (r : Crossing) → crossingSays r ≡ answer (crossingRefusal a b) (meetingNumbers (kept joints a b))
+      → KeptSaid R a b joints r
+  kept-said a b joints =
+      by-answer crossing-one (KeptSaid R a b joints) (crossingBy (kept joints a b)) (crossing.Refused (crossingRefusal a b))
+      (crossing-says (kept joints a b)) refl
+      (λ z. let t = cross-taken a b z in go z (t .0) (t .1) joints)
+      (kept-refused refl)
+    where
+      go : crossingRefusal a b ≡ pos 0 → Accepted a → Accepted b → (joints : Bool) → KeptSaid R a b joints (crossingBy (kept joints a b))
+      go z s t true =
+          all-given z (subst (λ (m : Meeting). Exactly R a b (crossingBy m)) (sym (kept-asked a b)) (exactly (d .crossings a b s t)))
+      go z s t false = joints-left-out z (but-joints s t)
+
 turn-said : (R : ℤ) → DemandAt R → (p q t : Point) (r : Signed) → signedSays r ≡ answer (turnRefusal p q t) (turn p q t ∷ []) → TurnSaid R p q t r
 turn-said R d p q t =
     by-answer signed-one (TurnSaid R p q t) (signed.Sign (turn p q t)) (signed.Refused (turnRefusal p q t)) refl refl
@@ -154,6 +185,7 @@ above-need R hR =
       sides = λ κs o t r. side-said R d o t r;
       crossings = λ κs a b r. cross-said R d a b r;
       accepted-crossings = λ κs a b r s t e. cross-exactly s t (cross-said R d a b r e);
+      kept-crossings = λ κs a b joints r. kept-said R d a b joints r;
     }
 
 -- "ends, order, side and crossing already agree with the cut pieces at every whole R of 1,000,000,000,000,000 or more"

@@ -1,6 +1,7 @@
 -- What demand 3 says of an answer of the code: refused by the paper's number, or not refused there, and what the cut pieces at R say. An answer
 -- is one that meets the call's contract (`Post`).
 use mathlib.Core.Path.{_≡_}
+use mathlib.Core.Bool.{Bool, true, false}
 use mathlib.Core.Logic.{_↔_}
 use lib.IntN.{ℤ, pos}
 use lib.Signed.{_<ℤ_}
@@ -21,12 +22,14 @@ use Rattle.sheet.specs.Crossing.{crossingRefusal}
 use Rattle.cut.specs.Place.{Place, SamePlace, put, spot}
 use Rattle.cut.specs.Cut.{Upto, Lies, OnlyShared, MoreShared, NothingShared}
 use Rattle.cut.specs.Claims.{SharedPoint}
+use Rattle.cut.specs.Joined.{Joined}
 use Rattle.cut.specs.Ordinary.{Ordered, determinant, circleDeterminant, signOf, way, tail, tip}
 use Rattle.kernel.proofs.ends.ends_of.Reads as ends-of
 use Rattle.kernel.proofs.signs.order_points.Reads as order-points
 use Rattle.kernel.proofs.signs.turn_points.Reads as turn-points
 use Rattle.kernel.proofs.signs.side_of.Reads as side-of
 use Rattle.kernel.proofs.crossing.cross.Reads as cross
+use Rattle.kernel.proofs.crossing.cross_kept.Reads as cross-kept
 use Rattle.kernel.proofs.circle.side_of_circle.Reads as side-of-circle
 
 -- "the two ends, put at R, are the cut piece's ends in its direction"
@@ -83,6 +86,17 @@ pub data CrossSaid (R : ℤ) (a b : Object) : Crossing → Type 0 where
   cross-refused : {n : ℤ} → n ≡ crossingRefusal a b → (n ≡ pos 0 → ⊥) → CrossSaid R a b (crossing.Refused n)
   cross-given : {r : Crossing} → crossingRefusal a b ≡ pos 0 → Exactly R a b r → CrossSaid R a b r
 
+-- "A pair whose single common point is an end of both objects is now left out .. unless the caller asks for joints" (document 02): where joints
+-- are not asked for, nothing is said of a joint, and of every other pair what is said with joints
+pub record ExactlyButJoints (R : ℤ) (a b : Object) (r : Crossing) : Type 0 where
+  pub of-joint : Joined R a b → r ≡ crossing.Nothing
+  pub of-other : (Joined R a b → ⊥) → Exactly R a b r
+
+pub data KeptSaid (R : ℤ) (a b : Object) : Bool → Crossing → Type 0 where
+  kept-refused : {joints : Bool} {n : ℤ} → n ≡ crossingRefusal a b → (n ≡ pos 0 → ⊥) → KeptSaid R a b joints (crossing.Refused n)
+  all-given : {r : Crossing} → crossingRefusal a b ≡ pos 0 → Exactly R a b r → KeptSaid R a b true r
+  joints-left-out : {r : Crossing} → crossingRefusal a b ≡ pos 0 → ExactlyButJoints R a b r → KeptSaid R a b false r
+
 -- ---- every call, at one R
 
 -- all but turn and side of circle
@@ -94,6 +108,8 @@ pub record CodeHolds (R : ℤ) : Type 0 where
   -- two accepted objects are not refused
   pub accepted-crossings : (κs : Lfts 0) (a b : Object) (r : Crossing)
       → Accepted a → Accepted b → cross.Post κs (a, (b, tt)) r (a, (b, tt)) → Exactly R a b r
+  pub kept-crossings : (κs : Lfts 0) (a b : Object) (joints : Bool) (r : Crossing)
+      → cross-kept.Post κs (a, (b, (joints, tt))) r (a, (b, (joints, tt))) → KeptSaid R a b joints r
 
 pub record CodeAt (R : ℤ) : Type 0 where
   pub holds : CodeHolds R

@@ -1,5 +1,6 @@
 -- Two answers that meet a function's contract are equal: stated of the contract itself (`Post`), at any arguments.
 use mathlib.Core.Path.{_≡_, sym, _∙_}
+use mathlib.Core.Bool.{Bool}
 use lib.IntN.{ℤ}
 use contract.Lifetimes.{Lfts}
 use Rattle.sheet.specs.declared.Object.{Object}
@@ -14,6 +15,7 @@ use Rattle.kernel.proofs.signs.order_points.Reads as order-points
 use Rattle.kernel.proofs.signs.turn_points.Reads as turn-points
 use Rattle.kernel.proofs.signs.side_of.Reads as side-of
 use Rattle.kernel.proofs.crossing.cross.Reads as cross
+use Rattle.kernel.proofs.crossing.cross_kept.Reads as cross-kept
 use Rattle.kernel.proofs.circle.side_of_circle.Reads as side-of-circle
 
 pub check-point-answer :
@@ -45,6 +47,11 @@ side-of-answer κs a r s p q = signed-one r s (p ∙ sym q)
 pub cross-answer : (κs : Lfts 0) (a b : Object) (r s : Crossing)
     → cross.Post κs (a, (b, tt)) r (a, (b, tt)) → cross.Post κs (a, (b, tt)) s (a, (b, tt)) → r ≡ s
 cross-answer κs a b r s p q = crossing-one r s (p ∙ sym q)
+
+pub cross-kept-answer : (κs : Lfts 0) (a b : Object) (joints : Bool) (r s : Crossing)
+    → cross-kept.Post κs (a, (b, (joints, tt))) r (a, (b, (joints, tt))) → cross-kept.Post κs (a, (b, (joints, tt))) s (a, (b, (joints, tt)))
+    → r ≡ s
+cross-kept-answer κs a b joints r s p q = crossing-one r s (p ∙ sym q)
 
 abbrev Four : Type 0
 Four = Point × (Point × (Point × (Point × Unit {0})))

@@ -7,3 +7,4 @@ pub mod Eight
 pub mod Handed
 pub mod Seen
 pub mod Tags
+pub mod Once

@@ -3,6 +3,10 @@
 pub mod Bounds
 pub mod Forms
 pub mod Stretches
+pub mod Joints
 -- laws
 pub mod Accepts
 pub mod Kinds
+pub mod SkewEnds
+pub mod JointsLaws
+pub mod CornerLaws

@@ -2,7 +2,6 @@
 --   stretch                 a stretch by its numbers; the kind says where it ends
 --   both-stretches          what two figures that are no sides share is what their stretches share
 --   side-first, side-second     .. with a side, that of the side and the other figure
---   stretches-skew, stretches-apart, stretches-together   the three cases of two stretches
 --   with-segment, with-ray, with-line, with-side   a side with a figure, by its kind
 --   reachesBy, reaches-is   whether a stretch reaches a place of its line, by its kind
 --   betweenBy, overlapBy    on one line, by inner products; far stands for no limit
@@ -29,7 +28,7 @@ use Rattle.sheet.specs.RefusalLaws.{kind-segment, kind-ray, kind-side, Shape, a
 use Rattle.sheet.specs.Points.{given, divided, divisor}
 use Rattle.sheet.specs.PointsLaws.{divided-back, divisor-above}
 use Rattle.sheet.specs.Ends.{farEnd, reverse, corner}
-use Rattle.sheet.specs.Crossing.{Meeting, none, point, many, Limit, free, till, Stretch, segmentStretch, rayStretch, lineStretch, cross, dot, reaches, skew, later, sooner, between, alike, together, stretches, endOn, sides, withSide, withStretch, meeting}
+use Rattle.sheet.specs.Crossing.{Meeting, none, point, many, Limit, free, till, Stretch, segmentStretch, rayStretch, lineStretch, dot, reaches, later, sooner, between, alike, together, stretches, endOn, sides, withSide, withStretch, meeting}
 use Rattle.kernel.specs.Bounds.{Numbers, FourPoints, Out}
 use Rattle.kernel.specs.Kinds.{a-shape}
 
@@ -97,20 +96,6 @@ module _ {ka px py qx qy kb rx ry sx sy : ℤ} (h : Numbers ka px py qx qy) (k :
 
     pub both-stretches : (kb ≡ pos 4 → ⊥) → meeting one two ≡ stretches (stretch ka px py qx qy) (stretch kb rx ry sx sy)
     both-stretches m = stretch-first (along h n) two ∙ piece-second one (stretch ka px py qx qy) (along k m)
-
--- the three cases of two stretches
-module _ (A B : Stretch) where
-  pub stretches-skew : (cross (A .d) (B .d) ≡ pos 0 → ⊥) → skew A B ≡ stretches A B
-  unfolding stretches
-  stretches-skew n = sym (simp (ne-eqZ n))
-
-  pub stretches-apart : cross (A .d) (B .d) ≡ pos 0 → (cross (A .d) (A .p ⇀ B .p) ≡ pos 0 → ⊥) → none ≡ stretches A B
-  unfolding stretches
-  stretches-apart e n = sym (simp (eq-eqZ e, ne-eqZ n))
-
-  pub stretches-together : cross (A .d) (B .d) ≡ pos 0 → cross (A .d) (A .p ⇀ B .p) ≡ pos 0 → together A B ≡ stretches A B
-  unfolding stretches
-  stretches-together e f = sym (simp (eq-eqZ e, eq-eqZ f))
 
 -- ---- whether a stretch reaches the place p + (h / w) d
 

@@ -30,6 +30,7 @@ pub mod crossing;
 mod divide;
 pub mod ends;
 mod far;
+mod joint;
 mod lead;
 mod oneline;
 pub mod points;

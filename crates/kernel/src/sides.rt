@@ -2,6 +2,7 @@
 use crate::far::abs;
 use crate::far::far_end;
 use crate::far::is_flat;
+use crate::joint::unless_corner;
 use sheet::Crossing;
 use sheet::Object;
 use sheet::Point;
@@ -14,6 +15,7 @@ ghost use Rattle.sheet.specs.Crossing.{none, withSide};
 ghost use Rattle.sheet.specs.Answers.{meetingNumbers, crossingSays};
 ghost use Rattle.kernel.specs.Bounds.{Numbers, Direction, Ahead, Out};
 ghost use Rattle.kernel.specs.Stretches.{onBy, endBy, sidesBy};
+ghost use Rattle.kernel.specs.Joints.{cornersLeft};
 
 fn out_x(n: i64) -> i64
     ensures { λ r. ⌜ r ≡ outX (sideOf n) ⌝ }
@@ -130,7 +132,7 @@ fn with_line(ox: i64, oy: i64, px: i64, py: i64, dx: i64, dy: i64) -> Crossing
 }
 
 // What side n shares with an object.
-pub fn with_side(n: i64, kind: i64, px: i64, py: i64, qx: i64, qy: i64) -> Crossing
+fn with_side(n: i64, kind: i64, px: i64, py: i64, qx: i64, qy: i64) -> Crossing
     requires { ⌜ Numbers kind px py qx qy ⌝ }
     ensures { λ r. ⌜ crossingSays r ≡ pos 0 ∷ meetingNumbers (withSide (sideOf n) (figureOf kind px py qx qy)) ⌝ }
 {
@@ -150,4 +152,22 @@ pub fn with_side(n: i64, kind: i64, px: i64, py: i64, qx: i64, qy: i64) -> Cross
         return with_end(ox, oy, px, py, dx, dy);
     }
     with_line(ox, oy, px, py, dx, dy)
+}
+
+// What a side shares with an object, joints left out or not. It stands apart, since it has two callers: the compiler then leaves it, and what it
+// asks of corners, out of their loop.
+pub fn with_side_kept(
+    n: i64,
+    kind: i64,
+    px: i64,
+    py: i64,
+    qx: i64,
+    qy: i64,
+    joints: bool,
+) -> Crossing
+    requires { ⌜ Numbers kind px py qx qy ⌝ }
+    ensures { λ r. ⌜ crossingSays r ≡ pos 0 ∷ meetingNumbers (cornersLeft joints (withSide (sideOf n) (figureOf kind px py qx qy))) ⌝ }
+{
+    let found = with_side(n, kind, px, py, qx, qy);
+    unless_corner(found, joints)
 }

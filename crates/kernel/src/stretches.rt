@@ -1,5 +1,8 @@
-// Two segments, rays or lines: whether they are parallel, and where two that are not meet.
+// Two segments, rays or lines: whether they are parallel, and where two that are not meet. A joint is left out here, before its point is worked
+// out, unless joints are asked for.
 use crate::divide::divide;
+use crate::joint::leaves_place;
+use crate::joint::unless_touch;
 use crate::oneline::together;
 use sheet::Crossing;
 use sheet::Object;
@@ -10,10 +13,11 @@ ghost use lib.IntN.{pos, _*ℤ_};
 ghost use Rattle.whole.specs.Sign.{sgn};
 ghost use Rattle.sheet.specs.Points.{divided};
 ghost use Rattle.sheet.specs.Figure.{vec, _⇀_};
-ghost use Rattle.sheet.specs.Crossing.{cross, stretches, skew, meetingPoint};
+ghost use Rattle.sheet.specs.Crossing.{cross, meetingPoint};
 ghost use Rattle.sheet.specs.Answers.{meetingNumbers, crossingSays};
 ghost use Rattle.kernel.specs.Bounds.{FourPoints, Apart, TimesSign};
 ghost use Rattle.kernel.specs.Stretches.{stretch, reachesBy};
+ghost use Rattle.kernel.specs.Joints.{skewKept, stretchesKept};
 
 // The sign of w, which is not 0, times z.
 fn times_sign(w: i64, z: i64) -> i64
@@ -57,8 +61,8 @@ fn meeting_point(px: i64, py: i64, qx: i64, qy: i64, rx: i64, ry: i64, sx: i64, 
     divide(0, nx, 0, ny, w)
 }
 
-// Not parallel: the lines meet at p + (h / w) d and r + (g / w) f, and a point is shared if both reach it. The cross product of the
-// directions comes from the caller, which has tested it.
+// Not parallel: the lines meet at p + (h / w) d and r + (g / w) f, and a point is shared if both reach it. By h, g and w it is told whether it is
+// an end of both. The cross product of the directions comes from the caller, which has tested it.
 fn skewed(
     ka: i64,
     px: i64,
@@ -71,10 +75,11 @@ fn skewed(
     sx: i64,
     sy: i64,
     across: i64,
+    joints: bool,
 ) -> Crossing
     requires { ⌜ Apart px py qx qy rx ry sx sy ⌝ }
     requires { ⌜ across ≡ cross (vec px py ⇀ vec qx qy) (vec rx ry ⇀ vec sx sy) ⌝ }
-    ensures { λ r. ⌜ crossingSays r ≡ pos 0 ∷ meetingNumbers (skew (stretch ka px py qx qy) (stretch kb rx ry sx sy)) ⌝ }
+    ensures { λ r. ⌜ crossingSays r ≡ pos 0 ∷ meetingNumbers (skewKept joints ka px py qx qy kb rx ry sx sy) ⌝ }
 {
     let dx = qx - px;
     let dy = qy - py;
@@ -93,11 +98,14 @@ fn skewed(
     if !reaches(kb, g, w) {
         return Crossing::Nothing;
     }
+    if leaves_place(joints, ka, h, kb, g, w) {
+        return Crossing::Nothing;
+    }
     let e = meeting_point(px, py, qx, qy, rx, ry, sx, sy);
     Crossing::Once(e)
 }
 
-// What two segments, rays or lines share.
+// What two segments, rays or lines share, joints left out or not.
 pub fn cross_stretches(
     ka: i64,
     px: i64,
@@ -109,9 +117,10 @@ pub fn cross_stretches(
     ry: i64,
     sx: i64,
     sy: i64,
+    joints: bool,
 ) -> Crossing
     requires { ⌜ FourPoints px py qx qy rx ry sx sy ⌝ }
-    ensures { λ r. ⌜ crossingSays r ≡ pos 0 ∷ meetingNumbers (stretches (stretch ka px py qx qy) (stretch kb rx ry sx sy)) ⌝ }
+    ensures { λ r. ⌜ crossingSays r ≡ pos 0 ∷ meetingNumbers (stretchesKept joints ka px py qx qy kb rx ry sx sy) ⌝ }
 {
     let dx = qx - px;
     let dy = qy - py;
@@ -119,7 +128,7 @@ pub fn cross_stretches(
     let fy = sy - ry;
     let across = dx * fy - dy * fx;
     if across != 0 {
-        return skewed(ka, px, py, qx, qy, kb, rx, ry, sx, sy, across);
+        return skewed(ka, px, py, qx, qy, kb, rx, ry, sx, sy, across, joints);
     }
     let ex = rx - px;
     let ey = ry - py;
@@ -127,5 +136,6 @@ pub fn cross_stretches(
     if off != 0 {
         return Crossing::Nothing;
     }
-    together(ka, px, py, qx, qy, kb, rx, ry, sx, sy)
+    let found = together(ka, px, py, qx, qy, kb, rx, ry, sx, sy);
+    unless_touch(found, joints, ka, px, py, qx, qy, kb, rx, ry, sx, sy)
 }

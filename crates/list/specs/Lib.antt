@@ -1,2 +1,4 @@
+-- what is to be believed
+pub mod Asked
 -- laws
 pub mod ReadingLaws

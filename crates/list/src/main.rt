@@ -14,6 +14,7 @@ ghost use Rattle.store.specs.Forms.{longest};
 ghost use Rattle.store.specs.Stored.{readDrawing};
 ghost use Rattle.rowtext.specs.Put.{rowMost};
 ghost use Rattle.stream.specs.Status.{MayTell};
+ghost use Rattle.list.specs.Asked.{ofMost, rowsAsked};
 ghost use mathlib.Core.Bool.{true};
 
 // The numbers of the most objects.
@@ -24,6 +25,9 @@ const OTHERS: usize = Object::MOST - 1;
 const ROWS: usize = OTHERS * sheet::lists::ROW_WIDTH;
 
 const TEXT: usize = OTHERS * rowtext::ROW_MOST;
+
+// That joints are asked for.
+const JOINTS: bool = true;
 
 // The argument that asks for the program's status, and is printed in front of the listing.
 const HEAD: usize = 1;
@@ -45,7 +49,7 @@ fn of_numbers(n: usize, list: &[i64]) -> usize
 }
 
 fn of_most(n: usize) -> usize
-    ensures { λ r. ⌜ r ≤ most ⌝ }
+    ensures { λ r. ⌜ (r ≤ most) × (r ≡ ofMost n) ⌝ }
 {
     if n < Object::MOST {
         return n;
@@ -101,13 +105,13 @@ fn say_count(whole: bool, count: usize) -> bool
     print(whole, &text[..n])
 }
 
-// Prints the rows of object i with all later ones, and answers how many.
+// Prints the rows of object i with all later ones, and answers how many. A listing counts joints: it asks for them.
 fn say_rows(whole: bool, list: &[i64], i: usize) -> Said
     requires { ⌜ whole ≡ true ⌝ }
-    ensures { λ r. ⌜ r .rows ≤ most ⌝ }
+    ensures { λ r. ⌜ (r .rows ≤ most) × (r .rows ≡ ofMost (rowsAsked (now (list .entry)) i)) ⌝ }
 {
     let mut rows = [0i64; ROWS];
-    let listed = listing::list_one(list, i, &mut rows);
+    let listed = listing::list_one(list, i, JOINTS, &mut rows);
     let length = of_numbers(listed.length, &rows);
     let mut text = [0u8; TEXT];
     let put = rowtext::put_rows(&rows[..length], &mut text);

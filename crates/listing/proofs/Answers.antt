@@ -13,10 +13,10 @@ use Rattle.listing.proofs.list_all.Reads as list-all
 
 pub list-one-answer :
     (κs : Lfts 2) (a : Dens κs one-kinds.ps) (r s : Listed) (x y : AtExit (endedOf 2 one-kinds.ps one-kinds.r) κs)
-    → list-one.Post κs a r x → list-one.Post κs a s y → (r ≡ s) × (now (x .1 .1 .0) ≡ now (y .1 .1 .0))
+    → list-one.Post κs a r x → list-one.Post κs a s y → (r ≡ s) × (now (x .1 .1 .1 .0) ≡ now (y .1 .1 .1 .0))
 list-one-answer κs a r s x y p q = (p .0 ∙ sym (q .0), p .1 ∙ sym (q .1))
 
 pub list-all-answer :
     (κs : Lfts 2) (a : Dens κs all-kinds.ps) (r s : Listed) (x y : AtExit (endedOf 2 all-kinds.ps all-kinds.r) κs)
-    → list-all.Post κs a r x → list-all.Post κs a s y → (r ≡ s) × (now (x .1 .0) ≡ now (y .1 .0))
+    → list-all.Post κs a r x → list-all.Post κs a s y → (r ≡ s) × (now (x .1 .1 .0) ≡ now (y .1 .1 .0))
 list-all-answer κs a r s x y p q = (p .0 ∙ sym (q .0), p .1 ∙ sym (q .1))

@@ -1,5 +1,5 @@
 -- What the inner functions of the code ask and say of the pairs of a list that is not refused: their rows, how many there are, how they end.
-use mathlib.Core.Bool.{cond}
+use mathlib.Core.Bool.{Bool, cond}
 use mathlib.Core.List.{List}
 use Prim.Native.Nat.{ℕ, _-_, _*_, _/_, _≤_, _<_}
 use lib.Dec.{ltb}
@@ -19,8 +19,8 @@ pub record Pair (l : List ℤ) (i j : ℕ) : Type 0 where
   pub two : j < countOf l
 
 -- the rows of the objects from one on before another, each with all later ones
-abbrev pub rowsBetween : List ℤ → ℕ → ℕ → List ℤ
-rowsBetween l from to = allBetween (λ i. rowsWith l i) from to
+abbrev pub rowsBetween : Bool → List ℤ → ℕ → ℕ → List ℤ
+rowsBetween joints l from to = allBetween (λ i. rowsWith joints l i) from to
 
 pub record Section (l : List ℤ) (from to : ℕ) : Type 0 where
   pub list : Listable l

@@ -1,6 +1,7 @@
 -- Listings, worked out by document 01's words and document 02's: its own example, the ten numbers of every kind of row, their order, and what
 -- is answered where a call is refused. A definition that says something else is refused here, whatever the code does.
 use mathlib.Core.Path.{_≡_, refl}
+use mathlib.Core.Bool.{true, false}
 use mathlib.Core.List.{List, [], _∷_, _++_}
 use Prim.Native.Nat.{ℕ}
 use lib.IntN.{ℤ, pos}
@@ -10,8 +11,9 @@ use Rattle.whole.specs.Divisor.{steps, gcd, gcdOf}
 use Rattle.sheet.specs.Figure.{sideOf, figureOf}
 use Rattle.sheet.specs.Refusal.{pairRefusal, sideRefusal, objectRefusal}
 use Rattle.sheet.specs.Points.{divided}
-use Rattle.sheet.specs.Ends.{farRaw, farEnd}
+use Rattle.sheet.specs.Ends.{farRaw, farEnd, firstEnd, lastEnd}
 use Rattle.sheet.specs.Crossing.{stretches, withSide, withStretch, meeting, crossingOf}
+use Rattle.sheet.specs.Joint.{joint, kept}
 use Rattle.sheet.specs.Answers.{objectNumbers}
 use Rattle.sheet.specs.Lent.{filled}
 use Rattle.sheet.specs.Lists.{listRefusal}
@@ -32,18 +34,21 @@ pub record WorkedListing : Type 0 where
   not-refused : listRefusal objects ≡ pos 0
   -- "0 1 point 0 4 0 2 3", "0 2 point 2 0 1 0 2", each with its two tags
   two-rows :
-      rowsOf objects
+      rowsOf true objects
       ≡ pos 0 ∷ pos 1 ∷ pos 1 ∷ pos 0 ∷ pos 4 ∷ pos 0 ∷ pos 2 ∷ pos 3 ∷ pos 0 ∷ pos 0
       ∷ pos 0 ∷ pos 2 ∷ pos 1 ∷ pos 2 ∷ pos 0 ∷ pos 1 ∷ pos 0 ∷ pos 2 ∷ pos 0 ∷ pos 0 ∷ []
   -- "rows 2"
-  two-pairs : sharing objects ≡ 2
+  two-pairs : sharing true objects ≡ 2
+  -- "The worked listing in document 01 keeps both its rows: neither is a joint."
+  neither-left-out : (rowsOf false objects ≡ rowsOf true objects) × (sharing false objects ≡ 2)
 
 pub worked-listing : WorkedListing
-unfolding inTurn listRefusal meetingOf pairRefusal sideRefusal objectRefusal stretches withSide withStretch meeting crossingOf sgn steps gcd gcdOf sideOf figureOf divided farRaw farEnd
+unfolding inTurn listRefusal meetingOf kept joint firstEnd lastEnd pairRefusal sideRefusal objectRefusal stretches withSide withStretch meeting crossingOf sgn steps gcd gcdOf sideOf figureOf divided farRaw farEnd
 worked-listing = record {
   not-refused = refl;
   two-rows = refl;
   two-pairs = refl;
+  neither-left-out = (refl, refl);
 }
 
 -- ---- rows and answers
@@ -73,6 +78,20 @@ two = pointRow (pos 0) (pos 2) (pos 7) (pos 8)
 abbrev last : List ℤ
 last = pointRow (pos 1) (pos 2) (pos 2000000) (pos 8)
 
+-- segments from (0,0) to (6,0), from there to (6,4), and from (3,0) to (3,4)
+abbrev angle : List ℤ
+angle =
+    objectNumbers (segment (pos 0) (pos 0) (pos 6) (pos 0))
+    ++ objectNumbers (segment (pos 6) (pos 0) (pos 6) (pos 4))
+    ++ objectNumbers (segment (pos 3) (pos 0) (pos 3) (pos 4))
+
+-- its rows: the joint, and the touch in the middle
+abbrev hinge : List ℤ
+hinge = pos 0 ∷ pos 1 ∷ pos 1 ∷ pos 0 ∷ pos 6 ∷ pos 0 ∷ pos 0 ∷ pos 1 ∷ pos 0 ∷ pos 0 ∷ []
+
+abbrev foot : List ℤ
+foot = pointRow (pos 0) (pos 2) (pos 0) (pos 0)
+
 -- kind 5; and 2,001
 abbrev noKind : List ℤ
 noKind = objectNumbers (object (pos 5) (pos 0) (pos 0) (pos 1) (pos 1))
@@ -85,12 +104,24 @@ lent n = replicate n (pos 77)
 
 pub record WorkedListed : Type 0 where
   -- "All pairs i < j, by i and then j, that share something."
-  by-i-and-then-j : rowsOf three ≡ one ++ two ++ last
-  many-row : rowsWith (objectNumbers (side (pos 4)) ++ objectNumbers (side (pos 4))) 0 ≡ manyRow (pos 0) (pos 0)
-  nothing-shared : (rowsOf (objectNumbers (side (pos 1)) ++ objectNumbers (side (pos 3))) ≡ []) × (rowsOf [] ≡ [])
+  by-i-and-then-j : rowsOf true three ≡ one ++ two ++ last
+  many-row : rowsWith true (objectNumbers (side (pos 4)) ++ objectNumbers (side (pos 4))) 0 ≡ manyRow (pos 0) (pos 0)
+  nothing-shared : (rowsOf true (objectNumbers (side (pos 1)) ++ objectNumbers (side (pos 3))) ≡ []) × (rowsOf true [] ≡ [])
   -- one object with all later ones
-  rows-of-one : (rowsWith three 0 ≡ one ++ two) × (rowsWith three 1 ≡ last) × (rowsWith three 2 ≡ [])
-  pairs : (sharing three ≡ 3) × (sharingWith three 0 ≡ 2) × (sharingWith three 1 ≡ 1) × (sharingWith three 2 ≡ 0)
+  rows-of-one : (rowsWith true three 0 ≡ one ++ two) × (rowsWith true three 1 ≡ last) × (rowsWith true three 2 ≡ [])
+  pairs : (sharing true three ≡ 3) × (sharingWith true three 0 ≡ 2) × (sharingWith true three 1 ≡ 1) × (sharingWith true three 2 ≡ 0)
+  -- "left out of rows unless the caller asks for joints": of an angle and a segment that stands in its middle, and of two sides
+  joints-asked-for : (rowsOf true angle ≡ hinge ++ foot) × (sharing true angle ≡ 2) × (sharingWith true angle 0 ≡ 2)
+  joints-left-out :
+      (rowsOf false angle ≡ foot) × (rowsWith false angle 0 ≡ foot) × (rowsWith false angle 1 ≡ [])
+      × (sharing false angle ≡ 1) × (sharingWith false angle 0 ≡ 1)
+  corner-left-out : rowsOf false (objectNumbers (side (pos 1)) ++ objectNumbers (side (pos 2))) ≡ []
+  many-stays : rowsOf false (objectNumbers (side (pos 4)) ++ objectNumbers (side (pos 4))) ≡ manyRow (pos 0) (pos 0)
+  -- in lengths and cells too: room for one row is enough
+  joints-take-no-room :
+      (listed (listRefusal angle) (sharing false angle) 10 ≡ record { refusal = pos 0; rows = 1; length = 10 })
+      × (listed (listRefusal angle) (sharing true angle) 10 ≡ record { refusal = pos 10; rows = 0; length = 20 })
+      × (filled (listRefusal angle) (rowsOf false angle) (lent 12) ≡ foot ++ lent 2)
   -- "A list: 14, 11, each object in turn, .. then 10."
   in-turn : (listRefusal (noKind ++ tooFar) ≡ pos 1) × (listRefusal (tooFar ++ noKind) ≡ pos 2)
   eleven-before-objects : listRefusal (tooFar ++ lent 3072) ≡ pos 11
@@ -106,17 +137,22 @@ pub record WorkedListed : Type 0 where
       × (listed (pos 1) 2 99 ≡ record { refusal = pos 1; rows = 0; length = 0 })
   no-rows : listed (pos 0) 0 0 ≡ record { refusal = pos 0; rows = 0; length = 0 }
   -- "Rows stand at the front of the lent list."
-  at-the-front : filled (listRefusal three) (rowsOf three) (lent 32) ≡ rowsOf three ++ lent 2
-  unchanged : (filled (listRefusal three) (rowsOf three) (lent 29) ≡ lent 29) × (filled (listRefusal tooFar) (rowsOf tooFar) (lent 32) ≡ lent 32)
+  at-the-front : filled (listRefusal three) (rowsOf true three) (lent 32) ≡ rowsOf true three ++ lent 2
+  unchanged : (filled (listRefusal three) (rowsOf true three) (lent 29) ≡ lent 29) × (filled (listRefusal tooFar) (rowsOf true tooFar) (lent 32) ≡ lent 32)
 
 pub worked-listed : WorkedListed
-unfolding inTurn listRefusal meetingOf pairRefusal sideRefusal objectRefusal stretches withSide withStretch meeting crossingOf sgn steps gcd gcdOf sideOf figureOf divided farRaw farEnd
+unfolding inTurn listRefusal meetingOf kept joint firstEnd lastEnd pairRefusal sideRefusal objectRefusal stretches withSide withStretch meeting crossingOf sgn steps gcd gcdOf sideOf figureOf divided farRaw farEnd
 worked-listed = record {
   by-i-and-then-j = refl;
   many-row = refl;
   nothing-shared = (refl, refl);
   rows-of-one = (refl, refl, refl);
   pairs = (refl, refl, refl, refl);
+  joints-asked-for = (refl, refl, refl);
+  joints-left-out = (refl, refl, refl, refl, refl);
+  corner-left-out = refl;
+  many-stays = refl;
+  joints-take-no-room = (refl, refl, refl);
   in-turn = (refl, refl);
   eleven-before-objects = refl;
   fourteen-before-eleven = refl;

@@ -1,4 +1,5 @@
-// The listing: a list of objects in, the rows of the pairs that share something out. A list is numbers, six an object.
+// The listing: a list of objects in, the rows of the pairs that share something out. A list is numbers, six an object. Joints, pairs whose one
+// common point is an end of both, are left out of rows, counts and lengths unless the caller asks for them.
 mod pairs; // pairs.rt: which pairs, in which order, and whether their rows have room
 mod rows; // rows.rt: what two objects share, and the row that tells it
 
@@ -35,9 +36,9 @@ fn index_refusal(list: &[i64], i: usize) -> i64
 }
 
 // The rows of object i with all later ones, at the front of a lent list.
-pub fn list_one(list: &[i64], i: usize, out: &mut [i64]) -> Listed
-    ensures answer { λ r. ⌜ r ≡ listed (oneRefusal (now (list .entry)) i) (sharingWith (now (list .entry)) i) (length (now (out .entry))) ⌝ }
-    ensures rows { λ r. ⌜ now (out .exit) ≡ filled (oneRefusal (now (list .entry)) i) (rowsWith (now (list .entry)) i) (now (out .entry)) ⌝ }
+pub fn list_one(list: &[i64], i: usize, joints: bool, out: &mut [i64]) -> Listed
+    ensures answer { λ r. ⌜ r ≡ listed (oneRefusal (now (list .entry)) i) (sharingWith joints (now (list .entry)) i) (length (now (out .entry))) ⌝ }
+    ensures rows { λ r. ⌜ now (out .exit) ≡ filled (oneRefusal (now (list .entry)) i) (rowsWith joints (now (list .entry)) i) (now (out .entry)) ⌝ }
 {
     let refusal = index_refusal(list, i);
     if refusal != 0 {
@@ -47,13 +48,13 @@ pub fn list_one(list: &[i64], i: usize, out: &mut [i64]) -> Listed
             length: 0,
         };
     }
-    list_pairs(list, i, i + 1, out)
+    list_pairs(list, i, i + 1, joints, out)
 }
 
 // The rows of all pairs, by i and then j, at the front of a lent list.
-pub fn list_all(list: &[i64], out: &mut [i64]) -> Listed
-    ensures answer { λ r. ⌜ r ≡ listed (listRefusal (now (list .entry))) (sharing (now (list .entry))) (length (now (out .entry))) ⌝ }
-    ensures rows { λ r. ⌜ now (out .exit) ≡ filled (listRefusal (now (list .entry))) (rowsOf (now (list .entry))) (now (out .entry)) ⌝ }
+pub fn list_all(list: &[i64], joints: bool, out: &mut [i64]) -> Listed
+    ensures answer { λ r. ⌜ r ≡ listed (listRefusal (now (list .entry))) (sharing joints (now (list .entry))) (length (now (out .entry))) ⌝ }
+    ensures rows { λ r. ⌜ now (out .exit) ≡ filled (listRefusal (now (list .entry))) (rowsOf joints (now (list .entry))) (now (out .entry)) ⌝ }
 {
     let refusal = list_refusal(list);
     if refusal != 0 {
@@ -63,5 +64,5 @@ pub fn list_all(list: &[i64], out: &mut [i64]) -> Listed
             length: 0,
         };
     }
-    list_pairs(list, 0, list.len() / Object::WIDTH, out)
+    list_pairs(list, 0, list.len() / Object::WIDTH, joints, out)
 }

@@ -9,19 +9,19 @@ ghost use Prim.Native.Nat.{_<_};
 ghost use lib.IntN.{pos};
 ghost use Rattle.sheet.specs.Limits.{most};
 ghost use Rattle.sheet.specs.Refusal.{Accepted};
-ghost use Rattle.sheet.specs.Crossing.{crossingOf};
+ghost use Rattle.sheet.specs.Joint.{kept};
 ghost use Rattle.sheet.specs.Lent.{Wrote};
 ghost use Rattle.sheet.specs.Lists.{objectAt};
 ghost use Rattle.sheet.specs.Meetings.{meetingBy};
 ghost use Rattle.listing.specs.Rows.{rowOf};
 ghost use Rattle.listing.specs.Pairs.{Pair};
 
-// What two accepted objects share.
-fn meet(a: Object, b: Object) -> Crossing
+// What two accepted objects are listed with.
+fn meet(a: Object, b: Object, joints: bool) -> Crossing
     requires { ⌜ Accepted a × Accepted b ⌝ }
-    ensures { λ r. ⌜ meetingBy r ≡ crossingOf a b ⌝ }
+    ensures { λ r. ⌜ meetingBy r ≡ kept joints a b ⌝ }
 {
-    kernel::crossing::cross(a, b)
+    kernel::crossing::cross_kept(a, b, joints)
 }
 
 // A row at a place of the lent list, the only place that makes one; ti and tj are the tags of i and j. Gives the place behind it.
@@ -55,14 +55,15 @@ pub(crate) fn put_row(
     list: &[i64],
     i: usize,
     j: usize,
+    joints: bool,
     out: &mut [i64],
     at: usize,
 ) -> usize
     requires { ⌜ Pair (now list) i j × (a ≡ objectAt (now list) i) ⌝ }
-    ensures { λ r. ⌜ Wrote (now (out .entry)) (now (out .exit)) at r (rowOf (now (list .entry)) i j) ⌝ }
+    ensures { λ r. ⌜ Wrote (now (out .entry)) (now (out .exit)) at r (rowOf joints (now (list .entry)) i j) ⌝ }
 {
     let b = object_at(list, j);
-    match meet(a, b) {
+    match meet(a, b, joints) {
         Crossing::Once(p) => {
             return write_row(out, at, i, j, 1, p.mx, p.nx, p.my, p.ny, p.w, a.tag, b.tag);
         }

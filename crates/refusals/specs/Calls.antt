@@ -38,6 +38,7 @@ use Rattle.screen.specs.declared.OnScreen.{OnScreen}
 use Rattle.screen.specs.declared.Boxed.{Boxed}
 use Rattle.screen.specs.Places.{placeSays}
 use Rattle.screen.specs.Boxes.{boxedSays}
+use Rattle.trial.specs.declared.RowCounts.{RowCounts}
 use Rattle.trial.specs.declared.TwoNumbers.{TwoNumbers}
 use Rattle.trial.specs.declared.ThreeNumbers.{ThreeNumbers}
 use Rattle.trial.specs.declared.SixNumbers.{SixNumbers}
@@ -56,6 +57,7 @@ use Rattle.kernel.proofs.signs.turn_points.Reads as turn-points
 use Rattle.kernel.proofs.signs.side_of.Reads as side-of
 use Rattle.kernel.proofs.circle.side_of_circle.Reads as side-of-circle
 use Rattle.kernel.proofs.crossing.cross.Reads as cross
+use Rattle.kernel.proofs.crossing.cross_kept.Reads as cross-kept
 use Rattle.store.proofs.check_drawing.Reads as check-drawing
 use Rattle.store.proofs.read_drawing.Reads as read-drawing
 use Rattle.store.proofs.form_of.Reads as form-of
@@ -76,6 +78,7 @@ use Rattle.screen.proofs.boxes.box_of.Reads as box-of
 use Rattle.viewer.proofs.silvanelga_check.Reads as viewer-check
 use Rattle.viewer.proofs.silvanelga_side.Reads as viewer-side
 use Rattle.trial.proofs.silvanelga_trial_list.Reads as trial-list
+use Rattle.trial.proofs.silvanelga_trial_one.Reads as trial-one
 use Rattle.trial.proofs.silvanelga_trial_read.Reads as trial-read
 use Rattle.trial.proofs.silvanelga_trial_write.Reads as trial-write
 use Rattle.trial.proofs.silvanelga_trial_form.Reads as trial-form
@@ -126,6 +129,8 @@ pub record Calls (P : ℤ → Type 0) : Type 0 where
   pub of-side-of-circle : (κs : Lfts 0) (p q s u : Point) (r : Signed)
       → side-of-circle.Post κs (p, (q, (s, (u, tt)))) r (p, (q, (s, (u, tt)))) → P (refusalIn (signedSays r))
   pub of-cross : (κs : Lfts 0) (a b : Object) (r : Crossing) → cross.Post κs (a, (b, tt)) r (a, (b, tt)) → P (refusalIn (crossingSays r))
+  pub of-cross-kept : (κs : Lfts 0) (a b : Object) (joints : Bool) (r : Crossing)
+      → cross-kept.Post κs (a, (b, (joints, tt))) r (a, (b, (joints, tt))) → P (refusalIn (crossingSays r))
   -- number: a stored number
   pub of-read-number : (κs : Lfts 1) (bytes : RefT (List ℕ)) (r : Number) → read-number.Post κs (bytes, tt) r (bytes, tt) → P (r .refusal)
   -- store: drawings checked, read, told by their form, written and moved, and read one object a call
@@ -141,10 +146,10 @@ pub record Calls (P : ℤ → Type 0) : Type 0 where
       → step.Post κs (bytes, (place, tt)) r (bytes, (place, tt)) → P (refusalIn (itemSays (r .item)))
   pub of-next : (κs : Lfts 1) (reader : Reader) (r : Taken) (e : AtExit next.ended κs) → NextPost κs reader r e → P (refusalIn (itemSays (r .item)))
   -- listing: rows of one object, and of all pairs
-  pub of-list-one : (κs : Lfts 2) (list : RefT (List ℤ)) (i : ℕ) (out after : RefT (List ℤ)) (r : Listed)
-      → list-one.Post κs (list, (i, (out, tt))) r (list, (i, (after, tt))) → P (r .refusal)
-  pub of-list-all : (κs : Lfts 2) (list out after : RefT (List ℤ)) (r : Listed)
-      → list-all.Post κs (list, (out, tt)) r (list, (after, tt)) → P (r .refusal)
+  pub of-list-one : (κs : Lfts 2) (list : RefT (List ℤ)) (i : ℕ) (joints : Bool) (out after : RefT (List ℤ)) (r : Listed)
+      → list-one.Post κs (list, (i, (joints, (out, tt)))) r (list, (i, (joints, (after, tt)))) → P (r .refusal)
+  pub of-list-all : (κs : Lfts 2) (list : RefT (List ℤ)) (joints : Bool) (out after : RefT (List ℤ)) (r : Listed)
+      → list-all.Post κs (list, (joints, (out, tt))) r (list, (joints, (after, tt))) → P (r .refusal)
   -- rowtext: the lines of a listing
   pub of-put-rows : (κs : Lfts 2) (rows : RefT (List ℤ)) (out after : RefT (List ℕ)) (r : Put)
       → put-rows.Post κs (rows, (out, tt)) r (rows, (after, tt)) → P (r .refusal)
@@ -162,7 +167,10 @@ pub record Calls (P : ℤ → Type 0) : Type 0 where
   pub of-viewer-side : (κs : Lfts 1) (bytes : RefT (List ℕ)) (i x y r : ℤ)
       → viewer-side.Post κs (bytes, (i, (x, (y, tt)))) r (bytes, (i, (x, (y, tt)))) → P (sideRefusalIn r)
   -- trial: the calls for bench/ and tests/
-  pub of-trial-list : (κs : Lfts 2) (list out after : RefT (List ℤ)) (r : ℤ) → trial-list.Post κs (list, (out, tt)) r (list, (after, tt)) → P r
+  pub of-trial-list : (κs : Lfts 2) (list : RefT (List ℤ)) (joints : Bool) (out after : RefT (List ℤ)) (r : RowCounts)
+      → trial-list.Post κs (list, (joints, (out, tt))) r (list, (joints, (after, tt))) → P (r .refusal)
+  pub of-trial-one : (κs : Lfts 2) (list : RefT (List ℤ)) (i : ℕ) (joints : Bool) (out after : RefT (List ℤ)) (r : RowCounts)
+      → trial-one.Post κs (list, (i, (joints, (out, tt)))) r (list, (i, (joints, (after, tt)))) → P (r .refusal)
   pub of-trial-read : (κs : Lfts 2) (bytes : RefT (List ℕ)) (out after : RefT (List ℤ)) (r : ℤ)
       → trial-read.Post κs (bytes, (out, tt)) r (bytes, (after, tt)) → P r
   pub of-trial-write : (κs : Lfts 2) (form : ℤ) (list : RefT (List ℤ)) (out after : RefT (List ℕ)) (r : ℤ)

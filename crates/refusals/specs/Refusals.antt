@@ -27,7 +27,7 @@ use Rattle.sheet.specs.RefusalTable.{refusals, among, Known}
 use Rattle.sheet.specs.RefusalTableLaws.{one-of, one-among, not-one, known-or, known-object, known-point, known-order, known-turn, known-side-sign, known-circle, known-crossing, known-list, known-index, known-room, refusal-in}
 use Rattle.sheet.specs.Points.{standard, pointRefusal}
 use Rattle.whole.specs.Choice.{orElse}
-use Rattle.sheet.specs.Lists.{rowWidth, countOf, listRefusal, indexRefusal}
+use Rattle.sheet.specs.Lists.{rowWidth, listRefusal, indexRefusal}
 use Rattle.sheet.specs.Answers.{answer, refusalIn, meetingNumbers}
 use Rattle.sheet.specs.AnswersLaws.{accepted, met-by}
 use Rattle.sheet.specs.AcceptsLaws.{cross-taken}
@@ -58,6 +58,7 @@ use Rattle.rowtext.specs.Text.{objectsWord, rowsWord, refusedWord, rowsText, co
 use Rattle.rowtext.specs.Put.{rowsRefusal}
 use Rattle.screen.specs.Values.{Values, floatAnswer}
 use Rattle.screen.specs.Places.{placeOf}
+use Rattle.trial.specs.declared.RowCounts.{RowCounts}
 use Rattle.trial.specs.declared.TwoNumbers.{TwoNumbers}
 use Rattle.trial.specs.declared.ThreeNumbers.{ThreeNumbers}
 use Rattle.trial.specs.Numbers.{formFrom, formTold}
@@ -224,6 +225,7 @@ calls P f = record {
   of-side-of-circle = λ κs p q s u r e. f _ (known-answer _ _ (known-circle p q s u) e);
   of-side-of = λ κs o s r e. f _ (known-answer _ _ (known-side-sign o s) e);
   of-cross = λ κs a b r e. f _ (known-answer _ _ (known-crossing a b) e);
+  of-cross-kept = λ κs a b joints r e. f _ (known-answer _ _ (known-crossing a b) e);
   of-read-number = λ κs bytes r e. f _ (subst Known (sym (ap (λ (x : Number). x .refusal) (e .0))) (number-known (bytes .now)));
   of-check-drawing = λ κs bytes r e. f _ (subst Known (sym e) (known-bytes (bytes .now)));
   of-read-drawing = λ κs bytes out after r e. f _ (known-read (bytes .now) out (ap (λ (x : Read). x .refusal) (e .0)));
@@ -232,10 +234,10 @@ calls P f = record {
   of-move-drawing = λ κs bytes form out after r e. f _ (known-moved form (bytes .now) out (ap (λ (x : Written). x .refusal) (e .0)));
   of-step = λ κs bytes place r e. f _ (subst (λ (x : Stepped). ItemKnown (x .item)) (sym e) (item-known (bytes .now) place));
   of-next = λ κs reader r x e. f _ (subst (λ (t : Taken). ItemKnown (t .item)) (sym e) (item-known (reader .bytes .now) (reader .place)));
-  of-list-one = λ κs list i out after r e.
-      f _ (known-lent _ (short out (sharingWith (list .now) i * rowWidth)) (known-one (list .now) i) (ap (λ (x : Listed). x .refusal) (e .0)));
-  of-list-all = λ κs list out after r e.
-      f _ (known-lent _ (short out (sharing (list .now) * rowWidth)) (known-list (list .now)) (ap (λ (x : Listed). x .refusal) (e .0)));
+  of-list-one = λ κs list i joints out after r e.
+      f _ (known-lent _ (short out (sharingWith joints (list .now) i * rowWidth)) (known-one (list .now) i) (ap (λ (x : Listed). x .refusal) (e .0)));
+  of-list-all = λ κs list joints out after r e.
+      f _ (known-lent _ (short out (sharing joints (list .now) * rowWidth)) (known-list (list .now)) (ap (λ (x : Listed). x .refusal) (e .0)));
   of-put-rows = λ κs rows out after r e.
       f _ (known-lent _ (short out (length (rowsText (rows .now)))) (known-rows (rows .now)) (ap (λ (x : Put). x .refusal) (e .0)));
   of-put-objects = λ κs n out after r e.
@@ -248,7 +250,10 @@ calls P f = record {
   of-box-of = λ κs l r e. f _ (known-told _ _ (known-list (l .now)) refl e);
   of-viewer-check = λ κs bytes r e. f _ (subst Known (sym e) (known-bytes (bytes .now)));
   of-viewer-side = λ κs bytes i x y r e. f _ (subst (λ (z : ℤ). Known (sideRefusalIn z)) (sym e) (side-known (bytes .now) i x y));
-  of-trial-list = λ κs list out after r e. f _ (known-lent _ (short out (sharing (list .now) * rowWidth)) (known-list (list .now)) (e .0));
+  of-trial-list = λ κs list joints out after r e.
+      f _ (known-lent _ (short out (sharing joints (list .now) * rowWidth)) (known-list (list .now)) (ap (λ (x : RowCounts). x .refusal) (e .0)));
+  of-trial-one = λ κs list i joints out after r e.
+      f _ (known-lent _ (short out (sharingWith joints (list .now) i * rowWidth)) (known-one (list .now) i) (ap (λ (x : RowCounts). x .refusal) (e .0)));
   of-trial-read = λ κs bytes out after r e. f _ (known-read (bytes .now) out (e .0));
   of-trial-write = λ κs form list out after r e. f _ (known-written (formFrom form) (list .now) out (e .0));
   of-trial-form = λ κs bytes r e. f _ (subst (λ (z : ℤ). Known (formRefusalIn z)) (sym e) (told-known (bytes .now)));

@@ -2,6 +2,7 @@
 --   flags      rules that turn `.. ≡ true` and `.. ≡ false` of &&, ||, not, ltZ, leZ, eqZ, eqb into products of orders and equations:
 --              `simp flags at h` reads a hypothesis, `simp flags (x, y)` proves a goal. A sum `s || t ≡ true` stays a sum of flags.
 --              Each rule may be cited by its own name too: both, neither, either, not-both, isnt-not, eqb-is, ..
+--   same-flag  two flags of which each says the other are the same
 --   cond-zero  a refusal that is 0 was not given: its test failed, and what stands behind it is 0. In `flags` too.
 -- Assumes nothing.
 use mathlib.Core.Path.{_≡_, refl, sym}
@@ -42,6 +43,11 @@ isnt false = (λ h. refl, λ h. refl)
 pub isnt-not : (t : Bool) → (not t ≡ false) ↔ (t ≡ true)
 isnt-not true = (λ h. refl, λ h. refl)
 isnt-not false = (λ h. sym h, λ h. sym h)
+
+pub same-flag : (s t : Bool) → (s ≡ true → t ≡ true) → (t ≡ true → s ≡ true) → s ≡ t
+same-flag true t f g = sym (f refl)
+same-flag false true f g = g refl
+same-flag false false f g = refl
 
 pub lt-is : (a b : ℤ) → (ltZ a b ≡ true) ↔ (a <ℤ b)
 lt-is a b = (λ h. ltZ-true h, λ h. lt-ltZ h)

@@ -9,6 +9,7 @@ pub mod Ends
 pub mod Signs
 pub mod Circle
 pub mod Crossing
+pub mod Joint
 pub mod Lists
 pub mod Lent
 pub mod Answers
@@ -21,6 +22,7 @@ pub mod WorkedRefusals
 pub mod WorkedAnswers
 pub mod WorkedReach
 pub mod WorkedCircle
+pub mod WorkedJoints
 -- what the code's inner functions say
 pub mod PointSizes
 pub mod Coefficients
@@ -47,6 +49,7 @@ pub mod Angles
 -- laws: crossing
 pub mod OnLine
 pub mod CrossingLaws
+pub mod JointLaws
 -- laws: lists and answers
 pub mod ListsLaws
 pub mod LentLaws

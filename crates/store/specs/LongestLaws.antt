@@ -32,8 +32,8 @@ use Rattle.store.specs.declared.Form.{Form}
 use Rattle.store.specs.declared.Form.the-variants.{Old, New}
 use Rattle.store.specs.Forms.{mark, writeMark, untagged, writeTag, readTag, nought, originOf, markMost, headMost, tagMost, objectMost, longestOf, longest}
 use Rattle.store.specs.Stored.{Drawing, Head, headOf, headIn, andThen, counted, before, formIn, writeDrawing, writeRefusal, readCoordinate, sideObject, readSide, readPoint, readTo, readPair, readShape, readTagged, readObject, readObjects, readForm, readCount, readHead, readDrawing, formOf, writeShape, writeObject, writeObjects}
-use Rattle.store.specs.SureLaws.{Sure, Kept, kept-old, kept-new, Fits, not-nought, sure-point, sure-object, sure-head}
-use Rattle.store.specs.TagsLaws.{Keeps, kept-taken, taken-kept}
+use Rattle.store.specs.SureLaws.{Sure, kept-old, kept-new, Fits, not-nought, sure-point, sure-object, sure-head}
+use Rattle.store.specs.TagsLaws.{kept-taken, taken-kept}
 use Rattle.store.specs.SureLaws as sure
 use Rattle.store.specs.ListLaws.{objects-first}
 use Rattle.store.specs.Trip.{back, stored-small, InReach, near-nought, near-origin}

@@ -22,7 +22,7 @@ use Rattle.number.specs.Number.{Reading, got, no, next, checked, readNumber, un
 use Rattle.store.specs.declared.Form.{Form}
 use Rattle.store.specs.declared.Form.the-variants.{Old, New}
 use Rattle.store.specs.Forms.{mark, untagged, readTag, nought, originOf}
-use Rattle.store.specs.Stored.{Head, headOf, readCoordinate, readPoint, readSide, readTo, readPair, readShape, readTagged, readObject, readForm, readCount, readHead}
+use Rattle.store.specs.Stored.{headOf, readCoordinate, readPoint, readSide, readTo, readPair, readShape, readTagged, readObject, readForm, readCount, readHead}
 use Rattle.number.specs.NumberLaws.{Numbered, number, ends, wrong, number-is}
 use Rattle.store.specs.Refusals.{ofBytes}
 

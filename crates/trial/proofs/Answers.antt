@@ -1,15 +1,18 @@
 -- Two answers that meet a function's contract are equal, and so are the two contents of a lent list afterwards: stated of the
 -- contract itself (`Post`), at any arguments.
 use mathlib.Core.Path.{_≡_, sym, _∙_}
+use mathlib.Core.Bool.{Bool}
 use mathlib.Core.List.{List}
 use Prim.Native.Nat.{ℕ}
 use lib.IntN.{ℤ}
 use contract.Lifetimes.{Lfts}
 use denote.Ref.{RefT}
+use Rattle.trial.specs.declared.RowCounts.{RowCounts}
 use Rattle.trial.specs.declared.TwoNumbers.{TwoNumbers}
 use Rattle.trial.specs.declared.ThreeNumbers.{ThreeNumbers}
 use Rattle.trial.specs.declared.SixNumbers.{SixNumbers}
 use Rattle.trial.proofs.silvanelga_trial_list.Reads as trial-list
+use Rattle.trial.proofs.silvanelga_trial_one.Reads as trial-one
 use Rattle.trial.proofs.silvanelga_trial_read.Reads as trial-read
 use Rattle.trial.proofs.silvanelga_trial_write.Reads as trial-write
 use Rattle.trial.proofs.silvanelga_trial_form.Reads as trial-form
@@ -20,10 +23,17 @@ use Rattle.trial.proofs.silvanelga_trial_place.Reads as trial-place
 use Rattle.trial.proofs.silvanelga_trial_box.Reads as trial-box
 
 pub trial-list-answer :
-    (κs : Lfts 2) (list rows : RefT (List ℤ)) (r s : ℤ) (l m : RefT (List ℤ))
-    → trial-list.Post κs (list, (rows, tt)) r (list, (l, tt)) → trial-list.Post κs (list, (rows, tt)) s (list, (m, tt))
+    (κs : Lfts 2) (list : RefT (List ℤ)) (joints : Bool) (rows : RefT (List ℤ)) (r s : RowCounts) (l m : RefT (List ℤ))
+    → trial-list.Post κs (list, (joints, (rows, tt))) r (list, (joints, (l, tt))) → trial-list.Post κs (list, (joints, (rows, tt))) s (list, (joints, (m, tt)))
     → (r ≡ s) × (l .now ≡ m .now)
-trial-list-answer κs list rows r s l m p q = (p .0 ∙ sym (q .0), p .1 ∙ sym (q .1))
+trial-list-answer κs list joints rows r s l m p q = (p .0 ∙ sym (q .0), p .1 ∙ sym (q .1))
+
+pub trial-one-answer :
+    (κs : Lfts 2) (list : RefT (List ℤ)) (i : ℕ) (joints : Bool) (rows : RefT (List ℤ)) (r s : RowCounts) (l m : RefT (List ℤ))
+    → trial-one.Post κs (list, (i, (joints, (rows, tt)))) r (list, (i, (joints, (l, tt))))
+    → trial-one.Post κs (list, (i, (joints, (rows, tt)))) s (list, (i, (joints, (m, tt))))
+    → (r ≡ s) × (l .now ≡ m .now)
+trial-one-answer κs list i joints rows r s l m p q = (p .0 ∙ sym (q .0), p .1 ∙ sym (q .1))
 
 pub trial-read-answer :
     (κs : Lfts 2) (bytes : RefT (List ℕ)) (list : RefT (List ℤ)) (r s : ℤ) (l m : RefT (List ℤ))

@@ -1,5 +1,5 @@
--- What C can take by value: a form as a number; a stored number as three numbers; what moving answers as two; a place or a box as six, those of what is told, in their order, and 0 for those
--- that it has not.
+-- What C can take by value: a form as a number; what a listing answers; a stored number as three numbers; what moving answers as two; a place or a
+-- box as six, those of what is told, in their order, and 0 for those that it has not.
 use mathlib.Core.Bool.{cond}
 use mathlib.Core.List.{List}
 use Prim.Native.Nat.{ℕ}
@@ -19,6 +19,8 @@ use Rattle.store.specs.declared.Form.the-variants.{Old, New}
 use Rattle.store.specs.declared.Written.{Written}
 use Rattle.store.specs.Stored.{readDrawing, formOf}
 use Rattle.store.specs.Answers.{formNumber}
+use Rattle.listing.specs.declared.Listed.{Listed}
+use Rattle.trial.specs.declared.RowCounts.{RowCounts}
 use Rattle.trial.specs.declared.TwoNumbers.{TwoNumbers}
 use Rattle.trial.specs.declared.SixNumbers.{SixNumbers}
 use Rattle.trial.specs.declared.ThreeNumbers.{ThreeNumbers}
@@ -30,6 +32,9 @@ formFrom n = cond (eqZ n (formNumber New)) New Old
 -- the number of a drawing's form, or 100 plus the refusal
 abbrev pub formTold : List ℕ → ℤ
 formTold bytes = cond (eqZ (readDrawing bytes .refusal) (pos 0)) (formNumber (formOf bytes)) (pos 100 +ℤ readDrawing bytes .refusal)
+
+abbrev pub countsOf : Listed → RowCounts
+countsOf r = record { refusal = r .refusal; rows = r .rows; length = r .length }
 
 abbrev pub twoOf : Written → TwoNumbers
 twoOf r = record { refusal = r .refusal; length = r .length }

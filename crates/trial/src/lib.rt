@@ -7,14 +7,14 @@ use sheet::Point;
 use store::Formed;
 ghost use mathlib.Core.Path.{_≡_};
 ghost use lib.ListN.{length};
-ghost use Rattle.listing.specs.Rows.{rowsOf, sharing};
+ghost use Rattle.listing.specs.Rows.{rowsWith, rowsOf, sharingWith, sharing};
 ghost use Rattle.sheet.specs.Lent.{filled, Wrote};
 ghost use Rattle.sheet.specs.Lists.{listRefusal};
-ghost use Rattle.listing.specs.Listing.{listed};
+ghost use Rattle.listing.specs.Listing.{oneRefusal, listed};
 ghost use Rattle.number.specs.Number.{writeNumbers, readNumber, numberOf};
 ghost use Rattle.store.specs.Stored.{readDrawing};
 ghost use Rattle.store.specs.Answers.{readAnswer, readInto, writeAnswer, writeInto, moveAnswer, moveInto};
-ghost use Rattle.trial.specs.Numbers.{formFrom, formTold, twoOf, threeOf, placeAnswer, boxAnswer};
+ghost use Rattle.trial.specs.Numbers.{formFrom, formTold, countsOf, twoOf, threeOf, placeAnswer, boxAnswer};
 
 // A place or a box: the refusal or 0, the side number or the flag, and the floats, from the front.
 #[repr(C)]
@@ -25,6 +25,14 @@ pub struct SixNumbers {
     pub second: f64,
     pub third: f64,
     pub fourth: f64,
+}
+
+// What a listing answers: the refusal or 0, how many rows, and how many numbers they are, or the length needed.
+#[repr(C)]
+pub struct RowCounts {
+    pub refusal: i64,
+    pub rows: usize,
+    pub length: usize,
 }
 
 // What moving answers: the refusal or 0, and the length of what was put, or the length needed.
@@ -46,12 +54,24 @@ pub struct ThreeNumbers {
 const REFUSED: i64 = 100;
 
 #[no_mangle]
-pub extern "C" fn silvanelga_trial_list(list: &[i64], rows: &mut [i64]) -> i64
-    ensures { λ r. ⌜ r ≡ listed (listRefusal (now (list .entry))) (sharing (now (list .entry))) (length (now (rows .entry))) .refusal ⌝ }
-    ensures { λ r. ⌜ now (rows .exit) ≡ filled (listRefusal (now (list .entry))) (rowsOf (now (list .entry))) (now (rows .entry)) ⌝ }
+pub extern "C" fn silvanelga_trial_list(list: &[i64], joints: bool, rows: &mut [i64]) -> RowCounts
+    ensures { λ r. ⌜ r ≡ countsOf (listed (listRefusal (now (list .entry))) (sharing joints (now (list .entry))) (length (now (rows .entry)))) ⌝ }
+    ensures { λ r. ⌜ now (rows .exit) ≡ filled (listRefusal (now (list .entry))) (rowsOf joints (now (list .entry))) (now (rows .entry)) ⌝ }
 {
-    let list_refusal = listing::list_all(list, rows).refusal;
-    list_refusal
+    numbers::of_listed(listing::list_all(list, joints, rows))
+}
+
+#[no_mangle]
+pub extern "C" fn silvanelga_trial_one(
+    list: &[i64],
+    i: usize,
+    joints: bool,
+    rows: &mut [i64],
+) -> RowCounts
+    ensures { λ r. ⌜ r ≡ countsOf (listed (oneRefusal (now (list .entry)) i) (sharingWith joints (now (list .entry)) i) (length (now (rows .entry)))) ⌝ }
+    ensures { λ r. ⌜ now (rows .exit) ≡ filled (oneRefusal (now (list .entry)) i) (rowsWith joints (now (list .entry)) i) (now (rows .entry)) ⌝ }
+{
+    numbers::of_listed(listing::list_one(list, i, joints, rows))
 }
 
 #[no_mangle]

@@ -1,5 +1,8 @@
-// Forms as numbers; places and boxes as six numbers, a struct by value, since C takes no enum.
+// What a listing answers as a struct of its own, which C may take; forms as numbers; places and boxes as six numbers, a struct by value, since C
+// takes no enum.
+use crate::RowCounts;
 use crate::SixNumbers;
+use listing::Listed;
 use screen::Boxed;
 use screen::OnScreen;
 use screen::SheetBox;
@@ -8,7 +11,20 @@ ghost use mathlib.Core.Path.{_≡_};
 ghost use Rattle.screen.specs.Places.{placeSays};
 ghost use Rattle.screen.specs.Boxes.{boxSays, boxedSays};
 ghost use Rattle.store.specs.Answers.{formNumber};
-ghost use Rattle.trial.specs.Numbers.{formFrom, sixOf};
+ghost use Rattle.trial.specs.Numbers.{formFrom, countsOf, sixOf};
+
+pub fn of_listed(listed: Listed) -> RowCounts
+    ensures { λ r. ⌜ r ≡ countsOf listed ⌝ }
+{
+    let refusal = listed.refusal;
+    let rows = listed.rows;
+    let length = listed.length;
+    RowCounts {
+        refusal,
+        rows,
+        length,
+    }
+}
 
 // The numbers of the forms.
 const OLD: i64 = 1;

@@ -1,5 +1,5 @@
 -- Tests of whole numbers, as flags. To cite:
---   ltZ-true, ltZ-false, leZ-true, leZ-false, eqZ-true, eqZ-false   what a flag says
+--   ltZ-true, ltZ-false, leZ-true, leZ-false, eqZ-true, eqZ-false   what a flag says;  false-of  a flag that is not true
 --   lt-ltZ, le-ltZ, le-leZ, lt-leZ, eq-eqZ, ne-eqZ                  the flag from what holds
 --   cond-by                     what holds of both choices, each where its flag says so, holds of the choice
 --   out, out-is, out-ok         a number as it comes out of a local is the number
@@ -34,7 +34,7 @@ true-of : (b : Bool) → T b → b ≡ true
 true-of true t = refl
 true-of false t = absurd t
 
-false-of : (b : Bool) → (b ≡ true → ⊥) → b ≡ false
+pub false-of : (b : Bool) → (b ≡ true → ⊥) → b ≡ false
 false-of true f = absurd (f refl)
 false-of false f = refl
 

@@ -34,6 +34,7 @@ fn main() {
     drawings::refused_writing();
     listings::every_pair();
     listings::one_object();
+    listings::joints();
     tags::makers();
     tags::nothing_else();
     tags::refusals();

@@ -22,9 +22,10 @@ accepted c = not-refused (c .before .list-refusal .ok) (c .before .list-refusal 
 returns : tie.Need-returns
 returns c =
     let s = c .before .before in
+    let joints = s .args .joints in
     let l = s .args .list .now in
     let r = c .before .list-refusal in
-    listing-refused (sharing l) (rowsOf l) (s .args .out .now) (length-rows l) (r .ok) (r .ensures) (c .if1 .taken)
+    listing-refused (sharing joints l) (rowsOf joints l) (s .args .out .now) (length-rows joints l) (r .ok) (r .ensures) (c .if1 .taken)
 
 list-pairs-requires : tie.Need-list-pairs-requires
 list-pairs-requires c κs =
@@ -36,9 +37,10 @@ returns-2 c =
     let p = c .before .list-pairs in
     let k = c .before .before .before in
     let s = k .before .before in
+    let joints = s .args .joints in
     let l = s .args .list .now in
-    listing-is (sharing l) (rowsOf l) (accepted k) (length-rows l)
-    (subst (λ (rows : List ℤ). Listing rows (s .args .out .now) (p .result) (p .last .1 .1 .1 .0)) (between-all (λ i. rowsWith l i) (countOf l)) (p .ensures))
+    listing-is (sharing joints l) (rowsOf joints l) (accepted k) (length-rows joints l)
+    (subst (λ (rows : List ℤ). Listing rows (s .args .out .now) (p .result) (p .last .1 .1 .1 .1 .0)) (between-all (λ i. rowsWith joints l i) (countOf l)) (p .ensures))
 
 pub list-all-spec : {M : Type 1} → statement M
 list-all-spec = tie.close (tie.spec (λ c κs. search needs) returns list-pairs-requires (λ c. search needs) returns-2)

@@ -32,10 +32,11 @@ known c =
 returns : tie.Need-returns
 returns c =
     let s = c .before .before in
+    let joints = s .args .joints in
     let l = s .args .list .now in
     let i = s .args .i in
     let r = c .before .index-refusal in
-    listing-refused (sharingWith l i) (rowsWith l i) (s .args .out .now) (length-rows-with l i) (r .ok) (r .ensures) (c .if1 .taken)
+    listing-refused (sharingWith joints l i) (rowsWith joints l i) (s .args .out .now) (length-rows-with joints l i) (r .ok) (r .ensures) (c .if1 .taken)
 
 add-list-pairs : tie.Need-add-list-pairs
 add-list-pairs c = omega (arith, known c .end)
@@ -48,10 +49,11 @@ returns-2 c =
     let p = c .before .list-pairs in
     let k = c .before .before .before in
     let s = k .before .before in
+    let joints = s .args .joints in
     let l = s .args .list .now in
     let i = s .args .i in
-    listing-is (sharingWith l i) (rowsWith l i) (accepted k) (length-rows-with l i)
-    (subst (λ (rows : List ℤ). Listing rows (s .args .out .now) (p .result) (p .last .1 .1 .1 .0)) (between-one (λ i. rowsWith l i) i) (p .ensures))
+    listing-is (sharingWith joints l i) (rowsWith joints l i) (accepted k) (length-rows-with joints l i)
+    (subst (λ (rows : List ℤ). Listing rows (s .args .out .now) (p .result) (p .last .1 .1 .1 .1 .0)) (between-one (λ i. rowsWith joints l i) i) (p .ensures))
 
 pub list-one-spec : {M : Type 1} → statement M
 list-one-spec = tie.close (tie.spec (λ c κs. search needs) returns add-list-pairs list-pairs-requires (λ c. search needs) returns-2)

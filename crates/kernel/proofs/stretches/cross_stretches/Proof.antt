@@ -1,11 +1,16 @@
 -- `cross_stretches` meets its contract: the cross products of the eight coordinates fit, and their two tests are the three cases of two stretches.
 use mathlib.Core.Path.{_≡_, sym, _∙_, ap, ap₂}
+use lib.IntN.{ℤ}
 use Rattle.whole.specs.Ring.{Expr, lit, _⊖_, _⊗_}
 use Rattle.whole.specs.Flat.{need, gives, eq-gives, ne-gives}
-use Rattle.whole.specs.Tests.{out}
-use Rattle.sheet.specs.Crossing.{Stretch, cross, skew, together}
-use Rattle.kernel.specs.Stretches.{stretch, stretches-skew, stretches-apart, stretches-together}
+use Rattle.whole.specs.Tests.{out, out-is}
+use Rattle.sheet.specs.Crossing.{Meeting, Stretch, cross, together}
+use Rattle.kernel.specs.Stretches.{stretch}
+use Rattle.kernel.specs.Joints.{skewKept, togetherKept}
+use Rattle.kernel.specs.JointsLaws.{kept-skew, kept-apart, kept-together, touch-said}
 use Rattle.kernel.proofs.Eight.{dxE, dyE, fxE, fyE, exE, eyE, acrossE, say, near-out, stretch-out}
+use Rattle.sheet.specs.Answers.{crossingSays}
+use borrow.Author.Needs.{needs}
 use Rattle.kernel.proofs.stretches.cross_stretches.Statement.{statement}
 use Rattle.kernel.proofs.stretches.cross_stretches.Tie as tie
 
@@ -24,6 +29,16 @@ A-out s = stretch-out (s .fits .ka) (s .fits .px) (s .fits .py) (s .fits .qx) (s
 
 B-out : (s : tie.Start) → stretch (out (s .args .kb)) (out (s .args .rx)) (out (s .args .ry)) (out (s .args .sx)) (out (s .args .sy)) ≡ B s
 B-out s = stretch-out (s .fits .kb) (s .fits .rx) (s .fits .ry) (s .fits .sx) (s .fits .sy)
+
+-- whatever is said of the ten numbers, as they are handed on
+by-ten : (s : tie.Start) (F : ℤ → ℤ → ℤ → ℤ → ℤ → ℤ → ℤ → ℤ → ℤ → ℤ → Meeting)
+    → F (out (s .args .ka)) (out (s .args .px)) (out (s .args .py)) (out (s .args .qx)) (out (s .args .qy))
+    (out (s .args .kb)) (out (s .args .rx)) (out (s .args .ry)) (out (s .args .sx)) (out (s .args .sy))
+    ≡ F (s .args .ka) (s .args .px) (s .args .py) (s .args .qx) (s .args .qy) (s .args .kb) (s .args .rx) (s .args .ry) (s .args .sx) (s .args .sy)
+by-ten s F =
+    let f = s .fits in
+    λ i. F (out-is (f .ka) i) (out-is (f .px) i) (out-is (f .py) i) (out-is (f .qx) i) (out-is (f .qy) i)
+    (out-is (f .kb) i) (out-is (f .rx) i) (out-is (f .ry) i) (out-is (f .sx) i) (out-is (f .sy) i)
 
 sub-dx : tie.Need-sub-dx
 sub-dx c = need (c .pre .near) dxE tt
@@ -58,8 +73,10 @@ skewed-requires c κs =
 returns : tie.Need-returns
 returns c =
     let s = c .before .before in
-    c .skewed .ensures ∙ (λ i. say (skew (A-out s i) (B-out s i)))
-    ∙ ap say (stretches-skew (A s) (B s) (ne-gives (s .pre .near) acrossE (lit 0) tt tt (c .before .if1 .taken)))
+    let a = s .args in
+    c .skewed .ensures ∙ ap say (by-ten s (skewKept (a .joints))
+    ∙ kept-skew (a .joints) (a .ka) (a .px) (a .py) (a .qx) (a .qy) (a .kb) (a .rx) (a .ry) (a .sx) (a .sy)
+    (ne-gives (s .pre .near) acrossE (lit 0) tt tt (c .before .if1 .taken)))
 
 sub-ex : tie.Need-sub-ex
 sub-ex c = need (c .before .pre .near) exE tt
@@ -80,18 +97,31 @@ returns-2 : tie.Need-returns-2
 returns-2 c =
     let s = c .before .before in
     let b = s .pre .near in
-    ap say (stretches-apart (A s) (B s) (eq-gives b acrossE (lit 0) tt tt (c .before .if1 .left)) (ne-gives b offE (lit 0) tt tt (c .if2 .taken)))
+    let a = s .args in
+    ap say (kept-apart (a .joints) (a .ka) (a .px) (a .py) (a .qx) (a .qy) (a .kb) (a .rx) (a .ry) (a .sx) (a .sy)
+    (eq-gives b acrossE (lit 0) tt tt (c .before .if1 .left)) (ne-gives b offE (lit 0) tt tt (c .if2 .taken)))
 
 together-requires : tie.Need-together-requires
 together-requires c κs = near-out (c .before .before .pre)
 
+-- what two on one line share
+abbrev shared : tie.Start → Meeting
+shared s =
+    together (stretch (out (s .args .ka)) (out (s .args .px)) (out (s .args .py)) (out (s .args .qx)) (out (s .args .qy)))
+    (stretch (out (s .args .kb)) (out (s .args .rx)) (out (s .args .ry)) (out (s .args .sx)) (out (s .args .sy)))
+
 returns-3 : tie.Need-returns-3
 returns-3 c =
-    let s = c .before .before .before in
+    let t = c .before in
+    let s = t .before .before .before in
     let b = s .pre .near in
-    c .together .ensures ∙ (λ i. say (together (A-out s i) (B-out s i)))
-    ∙ ap say (stretches-together (A s) (B s) (eq-gives b acrossE (lit 0) tt tt (c .before .before .if1 .left))
-    (eq-gives b offE (lit 0) tt tt (c .before .if2 .left)))
+    let a = s .args in
+    ap crossingSays (c .unless-touch .ensures)
+    ∙ touch-said (a .joints) (out (a .ka)) (out (a .px)) (out (a .py)) (out (a .qx)) (out (a .qy))
+    (out (a .kb)) (out (a .rx)) (out (a .ry)) (out (a .sx)) (out (a .sy)) (shared s) (t .together .result) (t .together .ensures)
+    ∙ ap say (by-ten s (togetherKept (a .joints))
+    ∙ kept-together (a .joints) (a .ka) (a .px) (a .py) (a .qx) (a .qy) (a .kb) (a .rx) (a .ry) (a .sx) (a .sy)
+    (eq-gives b acrossE (lit 0) tt tt (t .before .before .if1 .left)) (eq-gives b offE (lit 0) tt tt (t .before .if2 .left)))
 
 pub cross-stretches-spec : {M : Type 1} → statement M
 cross-stretches-spec =
@@ -113,4 +143,5 @@ cross-stretches-spec =
     sub-off
     returns-2
     together-requires
+    (λ c κs. search needs)
     returns-3)

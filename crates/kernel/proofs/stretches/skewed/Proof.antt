@@ -1,6 +1,7 @@
--- `skewed` meets its contract: h, g and w are the paper's, so its two tests are; what both reach is the divided meeting point.
+-- `skewed` meets its contract: h, g and w are the paper's, so its two tests are, and what they tell of ends; what both reach is the divided meeting
+-- point.
 use mathlib.Core.Path.{_≡_, sym, _∙_, ap, ap₂}
-use mathlib.Core.Bool.{Bool, true, cond, _&&_}
+use mathlib.Core.Bool.{Bool, true, cond, not, _&&_}
 use mathlib.Core.List.{List, [], _∷_}
 use lib.IntN.{ℤ, pos, _*ℤ_}
 use borrow.Author.Tests.{not-true, not-false}
@@ -13,6 +14,8 @@ use Rattle.sheet.specs.Figure.{vec}
 use Rattle.sheet.specs.Points.{size, divided}
 use Rattle.sheet.specs.Crossing.{Stretch, none, point, meetingPoint, reaches}
 use Rattle.kernel.specs.Stretches.{stretch, reachesBy, reaches-is}
+use Rattle.kernel.specs.Joints.{placeEnd, endsMeet, leftOut}
+use Rattle.kernel.specs.JointsLaws.{none-said}
 use Rattle.kernel.proofs.Eight.{dxE, dyE, fxE, fyE, exE, eyE, acrossE, say, apart-out, stretch-out, times-sign-is, times-sign-size}
 use borrow.Author.Needs.{needs}
 use Rattle.kernel.proofs.stretches.skewed.Statement.{statement}
@@ -33,6 +36,10 @@ A s = stretch (s .args .ka) (s .args .px) (s .args .py) (s .args .qx) (s .args .
 abbrev B : tie.Start → Stretch
 B s = stretch (s .args .kb) (s .args .rx) (s .args .ry) (s .args .sx) (s .args .sy)
 
+-- both are there at an end
+abbrev ends : tie.Start → Bool
+ends s = endsMeet (s .args .ka) (A s) (s .args .kb) (B s)
+
 -- the paper's two tests, and what it says by them
 abbrev first : tie.Start → Bool
 first s = let D = ev (ρ s) acrossE in reaches (A s) (sgn D *ℤ ev (ρ s) oneE) (size D)
@@ -41,7 +48,7 @@ abbrev second : tie.Start → Bool
 second s = let D = ev (ρ s) acrossE in reaches (B s) (sgn D *ℤ ev (ρ s) twoE) (size D)
 
 abbrev shown : tie.Start → Bool → Bool → List ℤ
-shown s t u = say (cond (t && u) (point (divided (meetingPoint (A s) (B s)))) none)
+shown s t u = say (leftOut (s .args .joints) (ends s) (cond (t && u) (point (divided (meetingPoint (A s) (B s)))) none))
 
 across-is : (s : tie.Start) → out (s .args .across) ≡ ev (ρ s) acrossE
 across-is s = out-is (s .fits .across) ∙ s .pre .1
@@ -124,7 +131,7 @@ returns : tie.Need-returns
 returns c =
     let d = c .before in
     let s = start d in
-    sym (ap (λ (t : Bool). shown s t (second s)) (sym (first-is d) ∙ not-true (d .reaches .result) (c .if1 .taken)))
+    none-said (s .args .joints) (ends s) ∙ sym (ap (λ (t : Bool). shown s t (second s)) (sym (first-is d) ∙ not-true (d .reaches .result) (c .if1 .taken)))
 
 mul-two : tie.Need-mul-two
 mul-two c = need (start (c .before) .pre .0 .near .near) (exE ⊗ dyE) tt
@@ -144,14 +151,38 @@ returns-2 : tie.Need-returns-2
 returns-2 c =
     let d = c .before in
     let s = start (d .before .before .before) in
-    sym (ap₂ (shown s) (first-yes (d .before .before)) (sym (second-is d) ∙ not-true (d .reaches2 .result) (c .if2 .taken)))
+    none-said (s .args .joints) (ends s)
+    ∙ sym (ap₂ (shown s) (first-yes (d .before .before)) (sym (second-is d) ∙ not-true (d .reaches2 .result) (c .if2 .taken)))
 
-meeting-point-requires : tie.Need-meeting-point-requires
-meeting-point-requires c κs = apart-out (start (c .before .before .before .before) .pre .0)
+-- what is told of ends is the paper's
+left-is : (c : tie.After-leaves-place) →
+    let s = start (c .before .before .before .before .before) in
+    (not (s .args .joints) && ends s) ≡ c .leaves-place .result
+left-is c =
+    let d = c .before .before .before in
+    let t = d .before .before in
+    let s = start t in
+    sym (c .leaves-place .ensures
+    ∙ (λ i. not (s .args .joints)
+    && (placeEnd (out-is (s .fits .ka) i) (h-is (t .before .before) i) (w-is-size (t .before) i)
+    && placeEnd (out-is (s .fits .kb) i) (g-is d i) (w-is-size (t .before) i))))
+
+-- what is said where both reach it, by whether it is left out
+abbrev said : tie.Start → Bool → List ℤ
+said s t = say (cond t none (cond (first s && second s) (point (divided (meetingPoint (A s) (B s)))) none))
 
 returns-3 : tie.Need-returns-3
 returns-3 c =
-    let d = c .before .before in
+    let d = c .before in
+    sym (ap (said (start (d .before .before .before .before .before))) (left-is d ∙ c .if3 .taken))
+
+meeting-point-requires : tie.Need-meeting-point-requires
+meeting-point-requires c κs = apart-out (start (c .before .before .before .before .before .before) .pre .0)
+
+returns-4 : tie.Need-returns-4
+returns-4 c =
+    let l = c .before .before in
+    let d = l .before .before in
     let s = start (d .before .before .before) in
     let e =
     c .meeting-point .ensures
@@ -159,8 +190,10 @@ returns-3 c =
     (stretch-out (fits64 (w-pos 3) tt) (s .fits .px) (s .fits .py) (s .fits .qx) (s .fits .qy) i)
     (stretch-out (fits64 (w-pos 3) tt) (s .fits .rx) (s .fits .ry) (s .fits .sx) (s .fits .sy) i)))
     in
-    (λ i. say (point (e i)))
-    ∙ sym (ap₂ (shown s) (first-yes (d .before .before)) (sym (second-is d) ∙ not-false (d .reaches2 .result) (c .before .if2 .left)))
+    let one = first-yes (d .before .before) in
+    let two = sym (second-is d) ∙ not-false (d .reaches2 .result) (l .before .if2 .left) in
+    let out = left-is l ∙ c .before .if3 .left in
+    (λ i. say (point (e i))) ∙ sym (λ i. say (cond (out i) none (cond (one i && two i) (point (divided (meetingPoint (A s) (B s)))) none)))
 
 pub skewed-spec : {M : Type 1} → statement M
 skewed-spec =
@@ -185,5 +218,7 @@ skewed-spec =
     times-sign-requires-3
     (λ c κs. search needs)
     returns-2
+    (λ c κs. search needs)
+    returns-3
     meeting-point-requires
-    returns-3)
+    returns-4)

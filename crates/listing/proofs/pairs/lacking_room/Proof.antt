@@ -14,7 +14,7 @@ use Rattle.listing.proofs.pairs.lacking_room.Statement.{statement}
 use Rattle.listing.proofs.pairs.lacking_room.Tie as tie
 
 abbrev size : tie.Start → ℕ
-size s = length (rowsBetween (s .args .list .now) (s .args .from) (s .args .to))
+size s = length (rowsBetween (s .args .joints) (s .args .list .now) (s .args .from) (s .args .to))
 
 abbrev start : tie.After-put-rows → tie.Start
 start c = c .before .before .before .before .before
@@ -22,7 +22,7 @@ start c = c .before .before .before .before .before
 sub-pairs : tie.Need-sub-pairs
 sub-pairs c =
     let s = c .before .before in
-    omega (arith, between-most (s .pre), c .before .pairs-of .ensures, c .pairs-of2 .ensures)
+    omega (arith, between-most (s .args .joints) (s .pre), c .before .pairs-of .ensures, c .pairs-of2 .ensures)
 
 -- the rows of every pair can be counted
 mul-if1 : tie.Need-mul-if1
@@ -35,10 +35,10 @@ returns : tie.Need-returns
 returns c =
     let d = c .before in
     let s = d .before .before in
-    lacks-none (size s) (s .args .room) (omega (arith, between-most (s .pre), d .before .pairs-of .ensures, d .pairs-of2 .ensures))
+    lacks-none (size s) (s .args .room) (omega (arith, between-most (s .args .joints) (s .pre), d .before .pairs-of .ensures, d .pairs-of2 .ensures))
 
 counted : (c : tie.After-put-rows) → c .put-rows .result ≡ size (start c)
-counted c = wrote-size (c .put-rows .ensures) ∙ clipped-is (omega (arith, between-fits (start c .pre)))
+counted c = wrote-size (c .put-rows .ensures) ∙ clipped-is (omega (arith, between-fits (start c .args .joints) (start c .pre)))
 
 returns-2 : tie.Need-returns-2
 returns-2 c = let s = start (c .before .before) in lacks-none (size s) (s .args .room) (omega (arith, counted (c .before .before)))

@@ -13,7 +13,7 @@ use Rattle.listing.proofs.pairs.list_pairs.Statement.{statement}
 use Rattle.listing.proofs.pairs.list_pairs.Tie as tie
 
 abbrev size : tie.Start → ℕ
-size s = length (rowsBetween (s .args .list .now) (s .args .from) (s .args .to))
+size s = length (rowsBetween (s .args .joints) (s .args .list .now) (s .args .from) (s .args .to))
 
 returns : tie.Need-returns
 returns c =
@@ -28,7 +28,7 @@ returns-2 c =
     let s = k .before .before in
     let w = d .put-rows .ensures in
     let fits = has-room (size s) (length (s .args .out .now)) (k .before .lacking-room .ensures) (k .if1 .left) in
-    let long = wrote-size w ∙ clipped-is (omega (arith, between-fits (s .pre))) in
+    let long = wrote-size w ∙ clipped-is (omega (arith, between-fits (s .args .joints) (s .pre))) in
     done refl fits long (ap (λ (n : ℕ). n / rowWidth) long) (wrote-front w fits)
 
 pub list-pairs-spec : {M : Type 1} → statement M

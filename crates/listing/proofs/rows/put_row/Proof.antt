@@ -9,7 +9,7 @@ use Rattle.sheet.specs.declared.Object.{Object}
 use Rattle.sheet.specs.Points.{numbers}
 use Rattle.sheet.specs.Limits.{most}
 use Rattle.sheet.specs.Refusal.{Accepted}
-use Rattle.sheet.specs.Crossing.{crossingOf}
+use Rattle.sheet.specs.Joint.{kept}
 use Rattle.sheet.specs.LentLaws.{wrote-none, wrote-as}
 use Rattle.sheet.specs.Meetings.{meetingBy}
 use Rattle.kernel.proofs.Handed as handed
@@ -28,9 +28,9 @@ meet-requires c κs =
     )
 
 -- what the two share: object i is the one that was handed in
-met : (c : tie.After-meet) → let s = c .before .before in meetingBy (c .meet .result) ≡ meetingOf (s .args .list .now) (s .args .i) (s .args .j)
+met : (c : tie.After-meet) → let s = c .before .before in meetingBy (c .meet .result) ≡ meetingOf (s .args .joints) (s .args .list .now) (s .args .i) (s .args .j)
 unfolding meetingOf
-met c = c .meet .ensures ∙ (λ k. crossingOf (c .before .before .pre .1 k) (c .before .object-at .ensures k))
+met c = c .meet .ensures ∙ (λ k. kept (c .before .before .args .joints) (c .before .before .pre .1 k) (c .before .object-at .ensures k))
 
 -- their tags, as they are handed on
 tags :
@@ -66,7 +66,7 @@ returns c =
     let both = tags taken (first .struct-told6 .given .1 .1 .1 .1 .1 .0 .1) (second .struct-told7 .given .1 .1 .1 .1 .1 .0 .1) in
     wrote-as (w .ensures)
     ((λ k. pos (s .args .i) ∷ pos (s .args .j) ∷ pos 1 ∷ (numbers (same k) ++ both k))
-    ∙ row-once (s .args .list .now) (s .args .i) (s .args .j) (sym (ap meetingBy (e .1)) ∙ met (k .before .before .before)))
+    ∙ row-once (s .args .joints) (s .args .list .now) (s .args .i) (s .args .j) (sym (ap meetingBy (e .1)) ∙ met (k .before .before .before)))
 
 write-row-requires-2 : tie.Need-write-row-requires-2
 write-row-requires-2 c κs = few (c .before .before .before .before .before .before .before)
@@ -81,19 +81,19 @@ returns-2 c =
     let both = tags taken (first .struct-told8 .given .1 .1 .1 .1 .1 .0 .1) (second .struct-told9 .given .1 .1 .1 .1 .1 .0 .1) in
     wrote-as (c .before .write-row2 .ensures)
     ((λ k. pos (s .args .i) ∷ pos (s .args .j) ∷ pos 2 ∷ pos 0 ∷ pos 0 ∷ pos 0 ∷ pos 0 ∷ pos 0 ∷ both k)
-    ∙ row-many (s .args .list .now) (s .args .i) (s .args .j) (sym (ap meetingBy (k .enum-told .given .1)) ∙ met (k .before .before)))
+    ∙ row-many (s .args .joints) (s .args .list .now) (s .args .i) (s .args .j) (sym (ap meetingBy (k .enum-told .given .1)) ∙ met (k .before .before)))
 
 returns-3 : tie.Need-returns-3
 returns-3 c =
     let s = c .before .before .before .before in
     wrote-as (wrote-none (omega arith) (omega arith))
-    (row-none (s .args .list .now) (s .args .i) (s .args .j) (sym (ap meetingBy (c .enum-told2 .given .1)) ∙ met (c .before .before)))
+    (row-none (s .args .joints) (s .args .list .now) (s .args .i) (s .args .j) (sym (ap meetingBy (c .enum-told2 .given .1)) ∙ met (c .before .before)))
 
 returns-4 : tie.Need-returns-4
 returns-4 c =
     let s = c .before .before .before .before in
     wrote-as (wrote-none (omega arith) (omega arith))
-    (row-none (s .args .list .now) (s .args .i) (s .args .j) (sym (ap meetingBy (c .enum-told3 .given .1)) ∙ met (c .before .before)))
+    (row-none (s .args .joints) (s .args .list .now) (s .args .i) (s .args .j) (sym (ap meetingBy (c .enum-told3 .given .1)) ∙ met (c .before .before)))
 
 pub put-row-spec : {M : Type 1} → statement M
 put-row-spec =
