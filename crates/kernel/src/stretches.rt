@@ -62,7 +62,8 @@ fn meeting_point(px: i64, py: i64, qx: i64, qy: i64, rx: i64, ry: i64, sx: i64, 
 }
 
 // Not parallel: the lines meet at p + (h / w) d and r + (g / w) f, and a point is shared if both reach it. By h, g and w it is told whether it is
-// an end of both. The cross product of the directions comes from the caller, which has tested it.
+// an end of both. The cross product of the directions comes from the caller, which has tested it. No answer is returned before the end: one way
+// out keeps the answers in registers, and most pairs, which share nothing, are soon done with.
 fn skewed(
     ka: i64,
     px: i64,
@@ -91,18 +92,19 @@ fn skewed(
     let h = times_sign(across, one);
     let w = times_sign(across, across);
     if !reaches(ka, h, w) {
-        return Crossing::Nothing;
+        Crossing::Nothing
+    } else {
+        let two = ex * dy - ey * dx;
+        let g = times_sign(across, two);
+        if !reaches(kb, g, w) {
+            Crossing::Nothing
+        } else if leaves_place(joints, ka, h, kb, g, w) {
+            Crossing::Nothing
+        } else {
+            let e = meeting_point(px, py, qx, qy, rx, ry, sx, sy);
+            Crossing::Once(e)
+        }
     }
-    let two = ex * dy - ey * dx;
-    let g = times_sign(across, two);
-    if !reaches(kb, g, w) {
-        return Crossing::Nothing;
-    }
-    if leaves_place(joints, ka, h, kb, g, w) {
-        return Crossing::Nothing;
-    }
-    let e = meeting_point(px, py, qx, qy, rx, ry, sx, sy);
-    Crossing::Once(e)
 }
 
 // What two segments, rays or lines share, joints left out or not.

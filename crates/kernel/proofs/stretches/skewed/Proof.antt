@@ -211,14 +211,14 @@ skewed-spec =
     times-sign-requires
     times-sign-requires-2
     (λ c κs. search needs)
-    returns
     mul-two
     mul-two-2
     sub-two
     times-sign-requires-3
     (λ c κs. search needs)
-    returns-2
     (λ c κs. search needs)
-    returns-3
     meeting-point-requires
+    returns
+    returns-2
+    returns-3
     returns-4)
