@@ -3,7 +3,7 @@
 --   first-side-kept, second-side-kept   what is left of two figures of which the first, or the second, is a side: all but corners
 -- Assumes nothing.
 use mathlib.Core.Path.{_≡_, refl, sym, _∙_, ap, ap₂, subst}
-use mathlib.Core.Bool.{Bool, true, false, _&&_, _||_, true≢false, and-true, or-true, and-comm}
+use mathlib.Core.Bool.{Bool, true, _&&_, _||_, true≢false, and-true, or-true, and-comm}
 use mathlib.Core.Logic.{_⊎_, inl, inr}
 use lib.IntN.{ℤ, pos, negsuc}
 use Rattle.whole.specs.Flag.{eqZ}
@@ -14,12 +14,12 @@ use Rattle.sheet.specs.RefusalLaws.{kind-side}
 use Rattle.sheet.specs.Points.{given}
 use Rattle.sheet.specs.Ends.{farEnd, reverse, corner, begins, nextSide}
 use Rattle.sheet.specs.Crossing.{Meeting, none, point, many, onSide, endOn, sides, withSide}
-use Rattle.sheet.specs.Joint.{samePoint}
+use Rattle.sheet.specs.Joint.{samePoint, isEnd, jointBy}
 use Rattle.sheet.specs.JointLaws.{same-point}
 use Rattle.sheet.specs.Flags.{both, either, same-flag}
 use Rattle.kernel.specs.Bounds.{Numbers}
 use Rattle.kernel.specs.Stretches.{side-first, side-second}
-use Rattle.kernel.specs.Joints.{leftOut, endOf, jointIn, figuresKept, isUnit, cornerAt, cornerIn, cornersLeft}
+use Rattle.kernel.specs.Joints.{leftOut, figuresKept, isUnit, cornerAt, cornerIn, cornersLeft}
 
 -- ---- which points of a side are its ends
 
@@ -35,7 +35,7 @@ unit {m} h = go (either _ _ .0 h)
     go (inr e) = subst Unit (sym (eqZ-true e)) minus
 
 -- of the four corners a side ends in those that are on it
-side-ends : (n : Side) {mx my : ℤ} → Unit mx → Unit my → onSide n (corner mx my) ≡ true → endOf (side n) (corner mx my) ≡ true
+side-ends : (n : Side) {mx my : ℤ} → Unit mx → Unit my → onSide n (corner mx my) ≡ true → isEnd (side n) (corner mx my) ≡ true
 side-ends left plus plus h = absurd (true≢false (sym h))
 side-ends left plus minus h = absurd (true≢false (sym h))
 side-ends left minus plus h = refl
@@ -59,28 +59,35 @@ begins-corner bottom = refl
 begins-corner right = refl
 begins-corner top = refl
 
-side-end : (n : Side) (e : Point) → onSide n e ≡ true → endOf (side n) e ≡ cornerAt e
-side-end n e on = same-flag (endOf (side n) e) (cornerAt e) (λ h. there (either _ _ .0 h)) back
+side-end : (n : Side) (e : Point) → onSide n e ≡ true → isEnd (side n) e ≡ cornerAt e
+side-end n e on = same-flag (isEnd (side n) e) (cornerAt e) (λ h. there (either _ _ .0 h)) back
   where
     there : (samePoint e (begins n) ≡ true) ⊎ (samePoint e (begins (nextSide n)) ≡ true) → cornerAt e ≡ true
     there (inl h) = ap cornerAt (same-point e (begins n) .0 h) ∙ begins-corner n
     there (inr h) = ap cornerAt (same-point e (begins (nextSide n)) .0 h) ∙ begins-corner (nextSide n)
 
-    back : cornerAt e ≡ true → endOf (side n) e ≡ true
+    back : cornerAt e ≡ true → isEnd (side n) e ≡ true
     back h =
         let c = simp both at h in
         let z : e ≡ corner (e .mx) (e .my) =
-        λ i. record { mx = e .mx; nx = eqZ-true {a = e .nx} {b = pos 0} (c .0 .1) i; my = e .my; ny = eqZ-true {a = e .ny} {b = pos 0} (c .1) i; w = eqZ-true {a = e .w} {b = pos 1} (c .0 .0 .0 .0) i } in
-        ap (endOf (side n)) z
+        λ i. record {
+          mx = e .mx;
+          nx = eqZ-true {a = e .nx} {b = pos 0} (c .0 .1) i;
+          my = e .my;
+          ny = eqZ-true {a = e .ny} {b = pos 0} (c .1) i;
+          w = eqZ-true {a = e .w} {b = pos 1} (c .0 .0 .0 .0) i;
+        }
+        in
+        ap (isEnd (side n)) z
         ∙ side-ends n (unit {m = e .mx} (c .0 .0 .0 .1)) (unit {m = e .my} (c .0 .0 .1)) (subst (λ (s : Point). onSide n s ≡ true) z on)
 
 -- an end of the other figure that is on the side; where nothing or many is shared, none is a corner
 data Told (n : Side) (g : Figure) : Meeting → Type 0 where
   no-point : Told n g none
   many-points : Told n g many
-  one-point : {e : Point} → (endOf (side n) e && endOf g e) ≡ cornerAt e → Told n g (point e)
+  one-point : {e : Point} → (isEnd (side n) e && isEnd g e) ≡ cornerAt e → Told n g (point e)
 
-end-on-told : (n : Side) {g : Figure} (e : Point) {m : Meeting} → endOf g e ≡ true → Told n g m → Told n g (endOn n e m)
+end-on-told : (n : Side) {g : Figure} (e : Point) {m : Meeting} → isEnd g e ≡ true → Told n g m → Told n g (endOn n e m)
 end-on-told n {g} e h t =
     cond-by (Told n g) (onSide n e) (λ on. one-point (ap₂ _&&_ (side-end n e on) h ∙ and-true (cornerAt e))) (λ _. t)
 
@@ -119,15 +126,15 @@ with-side-told n (side m) = two n m
     two top top = many-points
 
 -- a joint with a side is a corner
-corner-first : {n : Side} {g : Figure} {m : Meeting} → Told n g m → jointIn (side n) g m ≡ cornerIn m
+corner-first : {n : Side} {g : Figure} {m : Meeting} → Told n g m → jointBy (side n) g m ≡ cornerIn m
 corner-first no-point = refl
 corner-first many-points = refl
 corner-first (one-point h) = h
 
-corner-second : {n : Side} {g : Figure} {m : Meeting} → Told n g m → jointIn g (side n) m ≡ cornerIn m
+corner-second : {n : Side} {g : Figure} {m : Meeting} → Told n g m → jointBy g (side n) m ≡ cornerIn m
 corner-second no-point = refl
 corner-second many-points = refl
-corner-second {n} {g} (one-point {e} h) = and-comm (endOf g e) (endOf (side n) e) ∙ h
+corner-second {n} {g} (one-point {e} h) = and-comm (isEnd g e) (isEnd (side n) e) ∙ h
 
 module _ (joints : Bool) {ka px py qx qy kb rx ry sx sy : ℤ} (h : Numbers ka px py qx qy) (k : Numbers kb rx ry sx sy) where
   abbrev one : Figure
@@ -139,11 +146,11 @@ module _ (joints : Bool) {ka px py qx qy kb rx ry sx sy : ℤ} (h : Numbers ka p
   pub first-side-kept : ka ≡ pos 4 → cornersLeft joints (withSide (sideOf px) two) ≡ figuresKept joints one two
   first-side-kept e =
       let m = side-first h k e in
-      let t = ap (λ (f : Figure). jointIn f two (withSide (sideOf px) two)) (kind-side px py qx qy e) ∙ corner-first (with-side-told (sideOf px) two) in
-      sym ((λ i. leftOut joints (jointIn one two (m i)) (m i)) ∙ ap (λ (t : Bool). leftOut joints t (withSide (sideOf px) two)) t)
+      let t = ap (λ (f : Figure). jointBy f two (withSide (sideOf px) two)) (kind-side px py qx qy e) ∙ corner-first (with-side-told (sideOf px) two) in
+      sym ((λ i. leftOut joints (jointBy one two (m i)) (m i)) ∙ ap (λ (t : Bool). leftOut joints t (withSide (sideOf px) two)) t)
 
   pub second-side-kept : (ka ≡ pos 4 → ⊥) → kb ≡ pos 4 → cornersLeft joints (withSide (sideOf rx) one) ≡ figuresKept joints one two
   second-side-kept n e =
       let m = side-second h k n e in
-      let t = ap (λ (g : Figure). jointIn one g (withSide (sideOf rx) one)) (kind-side rx ry sx sy e) ∙ corner-second (with-side-told (sideOf rx) one) in
-      sym ((λ i. leftOut joints (jointIn one two (m i)) (m i)) ∙ ap (λ (t : Bool). leftOut joints t (withSide (sideOf rx) one)) t)
+      let t = ap (λ (g : Figure). jointBy one g (withSide (sideOf rx) one)) (kind-side rx ry sx sy e) ∙ corner-second (with-side-told (sideOf rx) one) in
+      sym ((λ i. leftOut joints (jointBy one two (m i)) (m i)) ∙ ap (λ (t : Bool). leftOut joints t (withSide (sideOf rx) one)) t)

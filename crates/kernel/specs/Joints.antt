@@ -11,27 +11,17 @@ use Rattle.sheet.specs.declared.Crossing.the-variants as crossing
 use Rattle.sheet.specs.Figure.{_⇀_, Figure}
 use Rattle.sheet.specs.Refusal.{equal}
 use Rattle.sheet.specs.Points.{size}
-use Rattle.sheet.specs.Ends.{firstOf, lastOf}
 use Rattle.sheet.specs.Crossing.{Meeting, none, point, many, Stretch, cross, skew, together, meeting}
-use Rattle.sheet.specs.Joint.{samePoint}
+use Rattle.sheet.specs.Joint.{jointBy}
 use Rattle.kernel.specs.Stretches.{stretch}
 
 -- nothing of a joint, where joints are not asked for
 abbrev pub leftOut : Bool → Bool → Meeting → Meeting
 leftOut joints ends m = cond (not joints && ends) none m
 
--- ---- of figures
-
-abbrev pub endOf : Figure → Point → Bool
-endOf f e = samePoint e (firstOf f) || samePoint e (lastOf f)
-
-abbrev pub jointIn : Figure → Figure → Meeting → Bool
-jointIn f g none = false
-jointIn f g (point e) = endOf f e && endOf g e
-jointIn f g many = false
-
+-- of figures
 abbrev pub figuresKept : Bool → Figure → Figure → Meeting
-figuresKept joints f g = leftOut joints (jointIn f g (meeting f g)) (meeting f g)
+figuresKept joints f g = leftOut joints (jointBy f g (meeting f g)) (meeting f g)
 
 -- ---- not parallel: by how far along each
 

@@ -22,11 +22,11 @@ use Rattle.sheet.specs.RefusalLaws.{Shape, a-segment, a-ray, a-line, a-side}
 use Rattle.sheet.specs.Points.{size, given, divided}
 use Rattle.sheet.specs.PointFacts.{OnEdge, Frame}
 use Rattle.sheet.specs.PointsLaws.{frame-divided, standard-divided}
-use Rattle.sheet.specs.Ends.{moment, farEnd, reverse, firstEnd, lastEnd}
+use Rattle.sheet.specs.Ends.{moment, farEnd, reverse}
 use Rattle.sheet.specs.EndsLaws.{Way, proper-way, reverse-way, far-frame}
 use Rattle.sheet.specs.Crossing.{Meeting, none, point, many, Limit, free, till, Stretch, cross, dot, meetingPoint, reaches, skew, later, sooner, between, alike, together, stretches, crossingOf}
 use Rattle.sheet.specs.CrossingLaws.{meeting-standard}
-use Rattle.sheet.specs.Joint.{samePoint, jointBy, joint, kept}
+use Rattle.sheet.specs.Joint.{samePoint, isEnd, jointBy, joint, kept}
 use Rattle.sheet.specs.JointLaws.{same-point}
 use Rattle.sheet.specs.Flags.{flags}
 use Rattle.sheet.specs.Answers.{meetingNumbers, crossingSays}
@@ -36,7 +36,7 @@ use Rattle.kernel.specs.Bounds.{Numbers}
 use Rattle.kernel.specs.Kinds.{a-shape, a-pair}
 use Rattle.kernel.specs.Stretches.{stretch, both-stretches}
 use Rattle.kernel.specs.SkewEnds.{meets-p, meets-q, meets-r, meets-s}
-use Rattle.kernel.specs.Joints.{leftOut, endOf, jointIn, figuresKept, endsMeet, ownEnd, touches, touchLeft, skewKept, togetherKept, stretchesKept, cornerAt, cornersLeft, cornerLeft}
+use Rattle.kernel.specs.Joints.{leftOut, figuresKept, endsMeet, ownEnd, touches, touchLeft, skewKept, togetherKept, stretchesKept, cornerAt, cornersLeft, cornerLeft}
 
 -- ---- what is left
 
@@ -56,13 +56,8 @@ left-else false false m = refl
 -- ---- by figures
 
 pub kept-figures : (joints : Bool) (a b : Object) → kept joints a b ≡ figuresKept joints (figure a) (figure b)
-unfolding kept joint crossingOf firstEnd lastEnd
-kept-figures joints a b = left-else joints (joint a b) (crossingOf a b) ∙ ap (λ (t : Bool). leftOut joints t (crossingOf a b)) (go (crossingOf a b))
-  where
-    go : (m : Meeting) → jointBy a b m ≡ jointIn (figure a) (figure b) m
-    go none = refl
-    go (point e) = refl
-    go many = refl
+unfolding kept joint crossingOf
+kept-figures joints a b = left-else joints (joint a b) (crossingOf a b)
 
 -- ---- a point that stands still is no far end
 
@@ -90,7 +85,7 @@ abbrev byKind : ℤ → Bool → Bool → Bool
 byKind kind at to = (leZ kind (pos 2) && at) || (eqZ kind (pos 1) && to)
 
 still-end : {kind px py qx qy : ℤ} → Numbers kind px py qx qy → (kind ≡ pos 4 → ⊥) → (e : Point) → isStill e ≡ true
-    → endOf (figureOf kind px py qx qy) e ≡ byKind kind (samePoint e (given (vec px py))) (samePoint e (given (vec qx qy)))
+    → isEnd (figureOf kind px py qx qy) e ≡ byKind kind (samePoint e (given (vec px py))) (samePoint e (given (vec qx qy)))
 still-end {kind} {px} {py} {qx} {qy} h n e still = go (a-shape h)
   where
     p : Vec
@@ -102,10 +97,10 @@ still-end {kind} {px} {py} {qx} {qy} h n e still = go (a-shape h)
     own : ℤ → Bool
     own k = byKind k (samePoint e (given p)) (samePoint e (given q))
 
-    by : {k : ℤ} {f : Figure} → kind ≡ k → figureOf kind px py qx qy ≡ f → endOf f e ≡ own k → endOf (figureOf kind px py qx qy) e ≡ own kind
-    by k f z = ap (λ (g : Figure). endOf g e) f ∙ z ∙ sym (ap own k)
+    by : {k : ℤ} {f : Figure} → kind ≡ k → figureOf kind px py qx qy ≡ f → isEnd f e ≡ own k → isEnd (figureOf kind px py qx qy) e ≡ own kind
+    by k f z = ap (λ (g : Figure). isEnd g e) f ∙ z ∙ sym (ap own k)
 
-    go : Shape kind px py qx qy → endOf (figureOf kind px py qx qy) e ≡ own kind
+    go : Shape kind px py qx qy → isEnd (figureOf kind px py qx qy) e ≡ own kind
     go (a-segment k f a) = by k f refl
     go (a-ray k f a) = by k f (ap (λ (t : Bool). samePoint e (given p) || t) (not-far e still p (p ⇀ q) (proper-way a)))
     go (a-line k f a) =
@@ -136,7 +131,7 @@ same-given : (a b : Vec) → samePoint (given a) (given b) ≡ (eqZ (a .x) (b .x
 same-given a b = and-true (eqZ (a .x) (b .x) && true && eqZ (a .y) (b .y)) ∙ ap (λ (t : Bool). t && eqZ (a .y) (b .y)) (and-true (eqZ (a .x) (b .x)))
 
 own-end : {kind px py qx qy : ℤ} → Numbers kind px py qx qy → (kind ≡ pos 4 → ⊥) → (a : Vec)
-    → endOf (figureOf kind px py qx qy) (given a) ≡ ownEnd kind px py qx qy (a .x) (a .y)
+    → isEnd (figureOf kind px py qx qy) (given a) ≡ ownEnd kind px py qx qy (a .x) (a .y)
 own-end {kind} {px} {py} {qx} {qy} h n a =
     still-end h n (given a) refl ∙ (λ i. byKind kind (same-given a (vec px py) i) (same-given a (vec qx qy) i))
 
@@ -156,7 +151,7 @@ module _ (joints : Bool) {ka px py qx qy kb rx ry sx sy : ℤ} (h : Numbers ka p
   abbrev B : Stretch
   B = stretch kb rx ry sx sy
 
-  touching : {o : Meeting} → Given o → jointIn f g o ≡ touches ka px py qx qy kb rx ry sx sy o
+  touching : {o : Meeting} → Given o → jointBy f g o ≡ touches ka px py qx qy kb rx ry sx sy o
   touching no-place = refl
   touching many-places = refl
   touching (one-place a) = ap₂ _&&_ (own-end h n a) (own-end k m a)
@@ -170,7 +165,7 @@ module _ (joints : Bool) {ka px py qx qy kb rx ry sx sy : ℤ} (h : Numbers ka p
         let s = standard-divided (meeting-standard A B (proper-way (a-pair h n)) (proper-way (a-pair k m)) apart) in
         simp flags (s .no-mx, s .no-my)
 
-    meeting-ends : (endOf f e && endOf g e) ≡ endsMeet ka A kb B
+    meeting-ends : (isEnd f e && isEnd g e) ≡ endsMeet ka A kb B
     meeting-ends =
         let a = a-pair h n in
         let b = a-pair k m in
@@ -178,12 +173,12 @@ module _ (joints : Bool) {ka px py qx qy kb rx ry sx sy : ℤ} (h : Numbers ka p
         (still-end h n e still ∙ (λ i. byKind ka (meets-p a b apart i) (meets-q a b apart i)))
         (still-end k m e still ∙ (λ i. byKind kb (meets-r a b apart i) (meets-s a b apart i)))
 
-    skew-left : leftOut joints (jointIn f g (skew A B)) (skew A B) ≡ leftOut joints (endsMeet ka A kb B) (skew A B)
+    skew-left : leftOut joints (jointBy f g (skew A B)) (skew A B) ≡ leftOut joints (endsMeet ka A kb B) (skew A B)
     skew-left =
         let D = cross (A .d) (B .d) in
         go (reaches A (sgn D *ℤ cross (A .p ⇀ B .p) (B .d)) (size D) && reaches B (sgn D *ℤ cross (A .p ⇀ B .p) (A .d)) (size D))
       where
-        go : (t : Bool) → leftOut joints (jointIn f g (cond t (point e) none)) (cond t (point e) none)
+        go : (t : Bool) → leftOut joints (jointBy f g (cond t (point e) none)) (cond t (point e) none)
             ≡ leftOut joints (endsMeet ka A kb B) (cond t (point e) none)
         go true = ap (λ (t : Bool). leftOut joints t (point e)) meeting-ends
         go false = left-none joints false ∙ sym (left-none joints (endsMeet ka A kb B))
@@ -192,11 +187,11 @@ module _ (joints : Bool) {ka px py qx qy kb rx ry sx sy : ℤ} (h : Numbers ka p
   unfolding stretches
   stretches-kept =
       let o = both-stretches h k n m in
-      sym ((λ i. leftOut joints (jointIn f g (o i)) (o i))
+      sym ((λ i. leftOut joints (jointBy f g (o i)) (o i))
       ∙ go (eqZ (cross (A .d) (B .d)) (pos 0)) (λ z. eqZ-false z) (eqZ (cross (A .d) (A .p ⇀ B .p)) (pos 0)))
     where
       kept-of : Meeting → Meeting
-      kept-of o = leftOut joints (jointIn f g o) o
+      kept-of o = leftOut joints (jointBy f g o) o
 
       go : (t : Bool) → (t ≡ false → cross (A .d) (B .d) ≡ pos 0 → ⊥) → (u : Bool)
           → kept-of (cond t (cond u (together A B) none) (skew A B))

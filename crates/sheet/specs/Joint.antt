@@ -4,7 +4,8 @@ use mathlib.Core.Bool.{Bool, false, cond, not, _&&_, _||_}
 use Rattle.whole.specs.Flag.{eqZ}
 use Rattle.sheet.specs.declared.Object.{Object}
 use Rattle.sheet.specs.declared.Point.{Point}
-use Rattle.sheet.specs.Ends.{firstEnd, lastEnd}
+use Rattle.sheet.specs.Figure.{Figure, figure}
+use Rattle.sheet.specs.Ends.{firstOf, lastOf}
 use Rattle.sheet.specs.Crossing.{Meeting, none, point, many, crossingOf}
 
 -- "Two points are equal exactly when their five numbers are."
@@ -12,17 +13,17 @@ abbrev pub samePoint : Point → Point → Bool
 samePoint p q = eqZ (p .mx) (q .mx) && eqZ (p .nx) (q .nx) && eqZ (p .my) (q .my) && eqZ (p .ny) (q .ny) && eqZ (p .w) (q .w)
 
 -- "an end": the first or the last
-abbrev pub isEnd : Object → Point → Bool
-isEnd o e = samePoint e (firstEnd o) || samePoint e (lastEnd o)
+abbrev pub isEnd : Figure → Point → Bool
+isEnd f e = samePoint e (firstOf f) || samePoint e (lastOf f)
 
--- of what a and b share: a "single common point" that "is an end of both objects"
-abbrev pub jointBy : Object → Object → Meeting → Bool
-jointBy a b none = false
-jointBy a b (point e) = isEnd a e && isEnd b e
-jointBy a b many = false
+-- of what two share: a "single common point" that "is an end of both objects"
+abbrev pub jointBy : Figure → Figure → Meeting → Bool
+jointBy f g none = false
+jointBy f g (point e) = isEnd f e && isEnd g e
+jointBy f g many = false
 
 unfoldable pub joint : Object → Object → Bool
-joint a b = jointBy a b (crossingOf a b)
+joint a b = jointBy (figure a) (figure b) (crossingOf a b)
 
 -- what a and b share, but nothing of a joint: "left out .. unless the caller asks for joints"
 unfoldable pub kept : Bool → Object → Object → Meeting

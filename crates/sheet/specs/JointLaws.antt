@@ -12,11 +12,12 @@ use mathlib.Core.Logic.{_⊎_, inl, inr, _↔_}
 use lib.IntN.{ℤ}
 use Rattle.sheet.specs.declared.Object.{Object}
 use Rattle.sheet.specs.declared.Point.{Point}
+use Rattle.sheet.specs.Figure.{figure}
 use Rattle.sheet.specs.Ends.{firstEnd, lastEnd}
 use Rattle.sheet.specs.Crossing.{Meeting, none, point, many, crossingOf}
 use Rattle.sheet.specs.Flags.{both, either, flags}
 use Rattle.sheet.specs.Tags.{tagged}
-use Rattle.sheet.specs.TagLaws.{ends-tag, crossing-tag, crossing-tag-second}
+use Rattle.sheet.specs.TagLaws.{crossing-tag, crossing-tag-second}
 use Rattle.sheet.specs.Joint.{samePoint, isEnd, jointBy, joint, kept}
 
 -- ---- what the flags say
@@ -29,7 +30,8 @@ same-point p q = (read, λ e. subst (λ (s : Point). samePoint p s ≡ true) e (
         let f = simp flags at h in
         λ i. record { mx = f .0 .0 .0 .0 i; nx = f .0 .0 .0 .1 i; my = f .0 .0 .1 i; ny = f .0 .1 i; w = f .1 i }
 
-pub end-is : (o : Object) (e : Point) → (isEnd o e ≡ true) ↔ ((e ≡ firstEnd o) ⊎ (e ≡ lastEnd o))
+pub end-is : (o : Object) (e : Point) → (isEnd (figure o) e ≡ true) ↔ ((e ≡ firstEnd o) ⊎ (e ≡ lastEnd o))
+unfolding firstEnd lastEnd
 end-is o e = (λ h. read (either _ _ .0 h), λ h. either _ _ .1 (write h))
   where
     read : (samePoint e (firstEnd o) ≡ true) ⊎ (samePoint e (lastEnd o) ≡ true) → (e ≡ firstEnd o) ⊎ (e ≡ lastEnd o)
@@ -49,19 +51,19 @@ pub record Joint (a b : Object) : Type 0 where
   pub end-of-second : (e ≡ firstEnd b) ⊎ (e ≡ lastEnd b)
 
 module _ (a b : Object) where
-  pub joint-once : {e : Point} → crossingOf a b ≡ point e → joint a b ≡ (isEnd a e && isEnd b e)
+  pub joint-once : {e : Point} → crossingOf a b ≡ point e → joint a b ≡ (isEnd (figure a) e && isEnd (figure b) e)
   unfolding joint
-  joint-once q = ap (jointBy a b) q
+  joint-once q = ap (jointBy (figure a) (figure b)) q
 
   pub joint-many : crossingOf a b ≡ many → joint a b ≡ false
   unfolding joint
-  joint-many q = ap (jointBy a b) q
+  joint-many q = ap (jointBy (figure a) (figure b)) q
 
   pub joint-is : (joint a b ≡ true) ↔ Joint a b
   unfolding joint
   joint-is = (read (crossingOf a b) refl, write)
     where
-      read : (m : Meeting) → crossingOf a b ≡ m → jointBy a b m ≡ true → Joint a b
+      read : (m : Meeting) → crossingOf a b ≡ m → jointBy (figure a) (figure b) m ≡ true → Joint a b
       read none q h = absurd (true≢false (sym h))
       read (point e) q h =
           let f = both _ _ .0 h in
@@ -89,12 +91,13 @@ module _ (a b : Object) where
 
 -- ---- two pairs that share the same, with the same ends
 
-module _ (a b c d : Object) (q : crossingOf a b ≡ crossingOf c d) (f : (e : Point) → isEnd a e ≡ isEnd c e) (g : (e : Point) → isEnd b e ≡ isEnd d e) where
+module _ (a b c d : Object) (q : crossingOf a b ≡ crossingOf c d)
+    (f : (e : Point) → isEnd (figure a) e ≡ isEnd (figure c) e) (g : (e : Point) → isEnd (figure b) e ≡ isEnd (figure d) e) where
   pub joint-as : joint a b ≡ joint c d
   unfolding joint
-  joint-as = ap (jointBy a b) q ∙ go (crossingOf c d)
+  joint-as = ap (jointBy (figure a) (figure b)) q ∙ go (crossingOf c d)
     where
-      go : (m : Meeting) → jointBy a b m ≡ jointBy c d m
+      go : (m : Meeting) → jointBy (figure a) (figure b) m ≡ jointBy (figure c) (figure d) m
       go none = refl
       go (point e) = ap₂ _&&_ (f e) (g e)
       go many = refl
@@ -107,32 +110,28 @@ module _ (a b c d : Object) (q : crossingOf a b ≡ crossingOf c d) (f : (e : Po
 module _ (a b : Object) (q : crossingOf a b ≡ crossingOf b a) where
   pub joint-over : joint a b ≡ joint b a
   unfolding joint
-  joint-over = ap (jointBy a b) q ∙ go (crossingOf b a)
+  joint-over = ap (jointBy (figure a) (figure b)) q ∙ go (crossingOf b a)
     where
-      go : (m : Meeting) → jointBy a b m ≡ jointBy b a m
+      go : (m : Meeting) → jointBy (figure a) (figure b) m ≡ jointBy (figure b) (figure a) m
       go none = refl
-      go (point e) = and-comm (isEnd a e) (isEnd b e)
+      go (point e) = and-comm (isEnd (figure a) e) (isEnd (figure b) e)
       go many = refl
 
   pub kept-over : (joints : Bool) → kept joints a b ≡ kept joints b a
   unfolding kept
   kept-over joints = λ i. cond (joints || not (joint-over i)) (q i) none
 
--- ---- tags
+-- ---- tags: an object's figure has none
 
-module _ (t : ℤ) where
-  end-tag : (o : Object) (e : Point) → isEnd (tagged t o) e ≡ isEnd o e
-  end-tag o e = let q = ends-tag t o in λ i. samePoint e (q .0 i) || samePoint e (q .1 i)
+module _ (t : ℤ) (a b : Object) where
+  pub joint-tag : joint (tagged t a) b ≡ joint a b
+  joint-tag = joint-as (tagged t a) b a b (crossing-tag t a b) (λ e. refl) (λ e. refl)
 
-  module _ (a b : Object) where
-    pub joint-tag : joint (tagged t a) b ≡ joint a b
-    joint-tag = joint-as (tagged t a) b a b (crossing-tag t a b) (end-tag a) (λ e. refl)
+  pub joint-tag-second : joint a (tagged t b) ≡ joint a b
+  joint-tag-second = joint-as a (tagged t b) a b (crossing-tag-second t a b) (λ e. refl) (λ e. refl)
 
-    pub joint-tag-second : joint a (tagged t b) ≡ joint a b
-    joint-tag-second = joint-as a (tagged t b) a b (crossing-tag-second t a b) (λ e. refl) (end-tag b)
+  pub kept-tag : (joints : Bool) → kept joints (tagged t a) b ≡ kept joints a b
+  kept-tag = kept-as (tagged t a) b a b (crossing-tag t a b) (λ e. refl) (λ e. refl)
 
-    pub kept-tag : (joints : Bool) → kept joints (tagged t a) b ≡ kept joints a b
-    kept-tag = kept-as (tagged t a) b a b (crossing-tag t a b) (end-tag a) (λ e. refl)
-
-    pub kept-tag-second : (joints : Bool) → kept joints a (tagged t b) ≡ kept joints a b
-    kept-tag-second = kept-as a (tagged t b) a b (crossing-tag-second t a b) (λ e. refl) (end-tag b)
+  pub kept-tag-second : (joints : Bool) → kept joints a (tagged t b) ≡ kept joints a b
+  kept-tag-second = kept-as a (tagged t b) a b (crossing-tag-second t a b) (λ e. refl) (λ e. refl)

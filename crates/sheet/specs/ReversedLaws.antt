@@ -15,7 +15,7 @@ use Rattle.whole.specs.Flag.{eqZ}
 use Rattle.whole.specs.Tests.{eqZ-true, eq-eqZ}
 use Rattle.sheet.specs.declared.Object.{Object}
 use Rattle.sheet.specs.declared.Point.{Point}
-use Rattle.sheet.specs.Figure.{Vec, _⇀_, first, second}
+use Rattle.sheet.specs.Figure.{Vec, _⇀_, first, second, figure}
 use Rattle.sheet.specs.Points.{given, divided}
 use Rattle.sheet.specs.Ends.{moment, farRaw, farEnd, reverse, firstOf, lastOf, firstEnd, lastEnd}
 use Rattle.sheet.specs.Signs.{sideSign}
@@ -79,7 +79,8 @@ reversed-ends o (inr e) =
       ap lastOf g ∙ sym (far-same (second o) (first o)) ∙ sym (ap firstOf f),
     )
 
-pub reversed-end : (o : Object) → (o .kind ≡ pos 1) ⊎ (o .kind ≡ pos 3) → (e : Point) → isEnd (reversed o) e ≡ isEnd o e
+pub reversed-end : (o : Object) → (o .kind ≡ pos 1) ⊎ (o .kind ≡ pos 3) → (e : Point) → isEnd (figure (reversed o)) e ≡ isEnd (figure o) e
+unfolding firstEnd lastEnd
 reversed-end o k e =
     let r = reversed-ends o k in
     (λ i. samePoint e (r .0 i) || samePoint e (r .1 i)) ∙ or-comm (samePoint e (lastEnd o)) (samePoint e (firstEnd o))

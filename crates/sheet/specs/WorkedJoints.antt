@@ -7,7 +7,7 @@ use lib.IntN.{pos}
 use Rattle.whole.specs.Sign.{sgn}
 use Rattle.whole.specs.Divisor.{steps, gcd, gcdOf}
 use Rattle.sheet.specs.declared.Object.{Object}
-use Rattle.sheet.specs.Figure.{sideOf, figureOf}
+use Rattle.sheet.specs.Figure.{sideOf, figureOf, figure}
 use Rattle.sheet.specs.Points.{divided}
 use Rattle.sheet.specs.Ends.{farRaw, farEnd, firstEnd, lastEnd}
 use Rattle.sheet.specs.Crossing.{none, many, stretches, withSide, withStretch, meeting, crossingOf}
@@ -54,8 +54,8 @@ pub record WorkedJoints : Type 0 where
       ≡ false ∷ false ∷ false ∷ false ∷ false ∷ [])
   -- its first and its last; the q that a ray or a line goes through is none
   two-ends :
-      (map (isEnd sill) (at (pos 0) (pos 0) ∷ at (pos 4) (pos 0) ∷ at (pos 2) (pos 0) ∷ []) ≡ true ∷ true ∷ false ∷ [])
-      × (map (isEnd (ray (pos 0) (pos 0) (pos 4) (pos 0))) (at (pos 0) (pos 0) ∷ at (pos 4) (pos 0) ∷ point (pos 1) (pos 0) (pos 0) (pos 0) (pos 1) ∷ [])
+      (map (isEnd (figure sill)) (at (pos 0) (pos 0) ∷ at (pos 4) (pos 0) ∷ at (pos 2) (pos 0) ∷ []) ≡ true ∷ true ∷ false ∷ [])
+      × (map (isEnd (figure (ray (pos 0) (pos 0) (pos 4) (pos 0)))) (at (pos 0) (pos 0) ∷ at (pos 4) (pos 0) ∷ point (pos 1) (pos 0) (pos 0) (pos 0) (pos 1) ∷ [])
       ≡ true ∷ false ∷ true ∷ [])
   -- the corner of a chain, whichever way the two arrows point, and whichever of the two comes first
   chain :
