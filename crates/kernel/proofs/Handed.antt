@@ -1,5 +1,5 @@
 -- Numbers that are handed on are the numbers: each comes out of a local as it went in. To cite:
---   by-five                     whatever is said of five numbers: `by-five figureOf (s .fits .kind) (s .fits .px) ..`
+--   by-five, by-ten             whatever is said of five numbers, or of ten: `by-five (s .fits .kind) (s .fits .px) .. figureOf`
 --   numbers-out                 five numbers of an accepted object are such as they are handed on
 --   figure-told, numbers-told   an object's numbers, from what `struct-told` says of the first five: `figure-told o (c .struct-told .given)`
 --   pointOf, pointOut, point    the point of five numbers, and of numbers that come out of locals, which is the point
@@ -22,6 +22,11 @@ module _ {a b c d e : ℤ} (fa : SFits w64 a) (fb : SFits w64 b) (fc : SFits w64
 
   pub numbers-out : Numbers a b c d e → Numbers (out a) (out b) (out c) (out d) (out e)
   numbers-out n = record { not-refused = by-five refusalOf ∙ n .not-refused }
+
+  module _ {g h i j k : ℤ} (fg : SFits w64 g) (fh : SFits w64 h) (fi : SFits w64 i) (fj : SFits w64 j) (fk : SFits w64 k) where
+    pub by-ten : {X : Type 0} (f : ℤ → ℤ → ℤ → ℤ → ℤ → ℤ → ℤ → ℤ → ℤ → ℤ → X)
+        → f (out a) (out b) (out c) (out d) (out e) (out g) (out h) (out i) (out j) (out k) ≡ f a b c d e g h i j k
+    by-ten f = λ n. f (out-is fa n) (out-is fb n) (out-is fc n) (out-is fd n) (out-is fe n) (out-is fg n) (out-is fh n) (out-is fi n) (out-is fj n) (out-is fk n)
 
 abbrev pub pointOf : ℤ → ℤ → ℤ → ℤ → ℤ → Point
 pointOf mx nx my ny w = record { mx = mx; nx = nx; my = my; ny = ny; w = w }

@@ -8,7 +8,7 @@ use Rattle.kernel.specs.Kinds.{a-pair}
 use Rattle.kernel.specs.Joints.{cornersLeft, stretchesKept}
 use Rattle.kernel.specs.JointsLaws.{stretches-kept}
 use Rattle.kernel.specs.CornerLaws.{first-side-kept, second-side-kept}
-use Rattle.kernel.proofs.Handed.{by-five, numbers-out}
+use Rattle.kernel.proofs.Handed.{by-five, by-ten, numbers-out}
 use Rattle.kernel.proofs.Eight.{say, near-out}
 use Rattle.kernel.proofs.crossing.meet.Statement.{statement}
 use Rattle.kernel.proofs.crossing.meet.Tie as tie
@@ -55,10 +55,9 @@ returns-3 c =
     let s = c .before .before .before in
     let f = s .fits in
     c .cross-stretches .ensures
-    ∙ (λ i. say (stretchesKept (s .args .joints)
-    (out-is (f .ka) i) (out-is (f .px) i) (out-is (f .py) i) (out-is (f .qx) i) (out-is (f .qy) i)
-    (out-is (f .kb) i) (out-is (f .rx) i) (out-is (f .ry) i) (out-is (f .sx) i) (out-is (f .sy) i)))
-    ∙ ap say (stretches-kept (s .args .joints) (s .pre .0) (s .pre .1) (eq-left (c .before .before .if1 .left)) (eq-left (c .before .if2 .left)))
+    ∙ ap say
+    (by-ten (f .ka) (f .px) (f .py) (f .qx) (f .qy) (f .kb) (f .rx) (f .ry) (f .sx) (f .sy) (stretchesKept (s .args .joints))
+    ∙ stretches-kept (s .args .joints) (s .pre .0) (s .pre .1) (eq-left (c .before .before .if1 .left)) (eq-left (c .before .if2 .left)))
 
 pub meet-spec : {M : Type 1} → statement M
 meet-spec =

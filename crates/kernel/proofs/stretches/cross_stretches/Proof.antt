@@ -1,15 +1,17 @@
 -- `cross_stretches` meets its contract: the cross products of the eight coordinates fit, and their two tests are the three cases of two stretches.
-use mathlib.Core.Path.{_≡_, sym, _∙_, ap, ap₂}
+use mathlib.Core.Path.{_≡_, sym, _∙_, ap}
 use lib.IntN.{ℤ}
 use Rattle.whole.specs.Ring.{Expr, lit, _⊖_, _⊗_}
 use Rattle.whole.specs.Flat.{need, gives, eq-gives, ne-gives}
-use Rattle.whole.specs.Tests.{out, out-is}
-use Rattle.sheet.specs.Crossing.{Meeting, Stretch, cross, together}
+use Rattle.whole.specs.Tests.{out}
+use Rattle.sheet.specs.Figure.{vec, _⇀_}
+use Rattle.sheet.specs.Crossing.{Meeting, cross, together}
+use Rattle.sheet.specs.Answers.{crossingSays}
 use Rattle.kernel.specs.Stretches.{stretch}
 use Rattle.kernel.specs.Joints.{skewKept, togetherKept}
 use Rattle.kernel.specs.JointsLaws.{kept-skew, kept-apart, kept-together, touch-said}
-use Rattle.kernel.proofs.Eight.{dxE, dyE, fxE, fyE, exE, eyE, acrossE, say, near-out, stretch-out}
-use Rattle.sheet.specs.Answers.{crossingSays}
+use Rattle.kernel.proofs.Eight.{dxE, dyE, fxE, fyE, exE, eyE, acrossE, say, near-out}
+use Rattle.kernel.proofs.Handed.{by-ten}
 use borrow.Author.Needs.{needs}
 use Rattle.kernel.proofs.stretches.cross_stretches.Statement.{statement}
 use Rattle.kernel.proofs.stretches.cross_stretches.Tie as tie
@@ -17,28 +19,12 @@ use Rattle.kernel.proofs.stretches.cross_stretches.Tie as tie
 abbrev offE : Expr
 offE = dxE ⊗ eyE ⊖ dyE ⊗ exE
 
-abbrev A : tie.Start → Stretch
-A s = stretch (s .args .ka) (s .args .px) (s .args .py) (s .args .qx) (s .args .qy)
-
-abbrev B : tie.Start → Stretch
-B s = stretch (s .args .kb) (s .args .rx) (s .args .ry) (s .args .sx) (s .args .sy)
-
--- the stretches as they are handed on
-A-out : (s : tie.Start) → stretch (out (s .args .ka)) (out (s .args .px)) (out (s .args .py)) (out (s .args .qx)) (out (s .args .qy)) ≡ A s
-A-out s = stretch-out (s .fits .ka) (s .fits .px) (s .fits .py) (s .fits .qx) (s .fits .qy)
-
-B-out : (s : tie.Start) → stretch (out (s .args .kb)) (out (s .args .rx)) (out (s .args .ry)) (out (s .args .sx)) (out (s .args .sy)) ≡ B s
-B-out s = stretch-out (s .fits .kb) (s .fits .rx) (s .fits .ry) (s .fits .sx) (s .fits .sy)
-
 -- whatever is said of the ten numbers, as they are handed on
-by-ten : (s : tie.Start) (F : ℤ → ℤ → ℤ → ℤ → ℤ → ℤ → ℤ → ℤ → ℤ → ℤ → Meeting)
+handed : (s : tie.Start) {X : Type 0} (F : ℤ → ℤ → ℤ → ℤ → ℤ → ℤ → ℤ → ℤ → ℤ → ℤ → X)
     → F (out (s .args .ka)) (out (s .args .px)) (out (s .args .py)) (out (s .args .qx)) (out (s .args .qy))
     (out (s .args .kb)) (out (s .args .rx)) (out (s .args .ry)) (out (s .args .sx)) (out (s .args .sy))
     ≡ F (s .args .ka) (s .args .px) (s .args .py) (s .args .qx) (s .args .qy) (s .args .kb) (s .args .rx) (s .args .ry) (s .args .sx) (s .args .sy)
-by-ten s F =
-    let f = s .fits in
-    λ i. F (out-is (f .ka) i) (out-is (f .px) i) (out-is (f .py) i) (out-is (f .qx) i) (out-is (f .qy) i)
-    (out-is (f .kb) i) (out-is (f .rx) i) (out-is (f .ry) i) (out-is (f .sx) i) (out-is (f .sy) i)
+handed s = let f = s .fits in by-ten (f .ka) (f .px) (f .py) (f .qx) (f .qy) (f .kb) (f .rx) (f .ry) (f .sx) (f .sy)
 
 sub-dx : tie.Need-sub-dx
 sub-dx c = need (c .pre .near) dxE tt
@@ -65,7 +51,7 @@ skewed-requires : tie.Need-skewed-requires
 skewed-requires c κs =
     let s = c .before in
     let b = s .pre .near in
-    let same = ap₂ (λ (x y : Stretch). cross (x .d) (y .d)) (A-out s) (B-out s) in (
+    let same = handed s (λ ka px py qx qy kb rx ry sx sy. cross (vec px py ⇀ vec qx qy) (vec rx ry ⇀ vec sx sy)) in (
       record { near = near-out (s .pre); apart = λ e. ne-gives b acrossE (lit 0) tt tt (c .if1 .taken) (sym same ∙ e) },
       gives b acrossE tt ∙ sym same,
     )
@@ -74,7 +60,7 @@ returns : tie.Need-returns
 returns c =
     let s = c .before .before in
     let a = s .args in
-    c .skewed .ensures ∙ ap say (by-ten s (skewKept (a .joints))
+    c .skewed .ensures ∙ ap say (handed s (skewKept (a .joints))
     ∙ kept-skew (a .joints) (a .ka) (a .px) (a .py) (a .qx) (a .qy) (a .kb) (a .rx) (a .ry) (a .sx) (a .sy)
     (ne-gives (s .pre .near) acrossE (lit 0) tt tt (c .before .if1 .taken)))
 
@@ -119,7 +105,7 @@ returns-3 c =
     ap crossingSays (c .unless-touch .ensures)
     ∙ touch-said (a .joints) (out (a .ka)) (out (a .px)) (out (a .py)) (out (a .qx)) (out (a .qy))
     (out (a .kb)) (out (a .rx)) (out (a .ry)) (out (a .sx)) (out (a .sy)) (shared s) (t .together .result) (t .together .ensures)
-    ∙ ap say (by-ten s (togetherKept (a .joints))
+    ∙ ap say (handed s (togetherKept (a .joints))
     ∙ kept-together (a .joints) (a .ka) (a .px) (a .py) (a .qx) (a .qy) (a .kb) (a .rx) (a .ry) (a .sx) (a .sy)
     (eq-gives b acrossE (lit 0) tt tt (t .before .before .if1 .left)) (eq-gives b offE (lit 0) tt tt (t .before .if2 .left)))
 
