@@ -11,7 +11,7 @@ use Rattle.whole.specs.Divisor.{steps, gcd, gcdOf}
 use Rattle.sheet.specs.Figure.{sideOf, figureOf}
 use Rattle.sheet.specs.Refusal.{pairRefusal, sideRefusal, objectRefusal}
 use Rattle.sheet.specs.Points.{divided}
-use Rattle.sheet.specs.Ends.{farRaw, farEnd, firstEnd, lastEnd}
+use Rattle.sheet.specs.Ends.{farRaw, farEnd}
 use Rattle.sheet.specs.Crossing.{stretches, withSide, withStretch, meeting, crossingOf}
 use Rattle.sheet.specs.Joint.{joint, kept}
 use Rattle.sheet.specs.Answers.{objectNumbers}
@@ -43,7 +43,7 @@ pub record WorkedListing : Type 0 where
   neither-left-out : (rowsOf false objects ≡ rowsOf true objects) × (sharing false objects ≡ 2)
 
 pub worked-listing : WorkedListing
-unfolding inTurn listRefusal meetingOf kept joint firstEnd lastEnd pairRefusal sideRefusal objectRefusal stretches withSide withStretch meeting crossingOf sgn steps gcd gcdOf sideOf figureOf divided farRaw farEnd
+unfolding inTurn listRefusal meetingOf kept joint pairRefusal sideRefusal objectRefusal stretches withSide withStretch meeting crossingOf sgn steps gcd gcdOf sideOf figureOf divided farRaw farEnd
 worked-listing = record {
   not-refused = refl;
   two-rows = refl;
@@ -141,7 +141,7 @@ pub record WorkedListed : Type 0 where
   unchanged : (filled (listRefusal three) (rowsOf true three) (lent 29) ≡ lent 29) × (filled (listRefusal tooFar) (rowsOf true tooFar) (lent 32) ≡ lent 32)
 
 pub worked-listed : WorkedListed
-unfolding inTurn listRefusal meetingOf kept joint firstEnd lastEnd pairRefusal sideRefusal objectRefusal stretches withSide withStretch meeting crossingOf sgn steps gcd gcdOf sideOf figureOf divided farRaw farEnd
+unfolding inTurn listRefusal meetingOf kept joint pairRefusal sideRefusal objectRefusal stretches withSide withStretch meeting crossingOf sgn steps gcd gcdOf sideOf figureOf divided farRaw farEnd
 worked-listed = record {
   by-i-and-then-j = refl;
   many-row = refl;

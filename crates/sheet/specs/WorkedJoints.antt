@@ -9,7 +9,7 @@ use Rattle.whole.specs.Divisor.{steps, gcd, gcdOf}
 use Rattle.sheet.specs.declared.Object.{Object}
 use Rattle.sheet.specs.Figure.{sideOf, figureOf, figure}
 use Rattle.sheet.specs.Points.{divided}
-use Rattle.sheet.specs.Ends.{farRaw, farEnd, firstEnd, lastEnd}
+use Rattle.sheet.specs.Ends.{farRaw, farEnd}
 use Rattle.sheet.specs.Crossing.{none, many, stretches, withSide, withStretch, meeting, crossingOf}
 use Rattle.sheet.specs.Crossing as crossing
 use Rattle.sheet.specs.Joint.{samePoint, isEnd, joint, kept}
@@ -102,7 +102,7 @@ pub record WorkedJoints : Type 0 where
       × (kept false (side (pos 1)) (side (pos 3)) ≡ none)
 
 pub worked-joints : WorkedJoints
-unfolding joint kept stretches withSide withStretch meeting crossingOf sgn steps gcd gcdOf sideOf figureOf divided farRaw farEnd firstEnd lastEnd
+unfolding joint kept stretches withSide withStretch meeting crossingOf sgn steps gcd gcdOf sideOf figureOf divided farRaw farEnd
 worked-joints = record {
   five-numbers = (refl, refl);
   two-ends = (refl, refl);
