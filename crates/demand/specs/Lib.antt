@@ -4,3 +4,4 @@ pub mod Said
 pub mod WorkedBounds
 -- laws
 pub mod Demand
+pub mod Alike
