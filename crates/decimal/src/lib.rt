@@ -1,5 +1,7 @@
 // Text and decimal numbers, put into lent bytes at a place: as far as there are bytes, and the place behind is given (sheet's lent cells).
 // The definitions are in specs/Decimal.antt.
+#![tactic(auto)]
+
 ghost use Rattle.sheet.specs.Lent.{Wrote};
 ghost use Rattle.decimal.specs.Decimal.{digits, sized, signed, field, numbers};
 

@@ -13,8 +13,8 @@ use Rattle.sheet.specs.AnswersLaws.{accepted, crossing-one}
 use Rattle.sheet.specs.AcceptsLaws.{taken-cross}
 use Rattle.sheet.specs.Crossing.{Meeting}
 use Rattle.sheet.specs.Joint.{kept}
-use Rattle.sheet.specs.ReversedLaws.{reversed, reversed-accepted}
-use Rattle.cut.specs.Swap.{kept-swap, kept-turned}
+use Rattle.sheet.proofs.ReversedLaws.{reversed, reversed-accepted}
+use Rattle.cut.proofs.Swap.{kept-swap, kept-turned}
 use Rattle.kernel.proofs.crossing.cross_kept.Reads as cross-kept
 
 -- an answer for two objects

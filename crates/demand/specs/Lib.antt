@@ -3,5 +3,4 @@ pub mod Said
 -- worked on them
 pub mod WorkedBounds
 -- laws
-pub mod Demand
 pub mod Alike

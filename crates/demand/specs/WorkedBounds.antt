@@ -1,4 +1,4 @@
--- The code at the R of `cut/specs/WorkedBounds`: its answers to those objects and points are not what the cut pieces say there. To cite:
+-- The code at the R of `cut/proofs/WorkedBounds`: its answers to those objects and points are not what the cut pieces say there. To cite:
 --   ends-fail 3,999,999, meets-fail 4,000,000, crossings-fail 63,968,005,999, sides-fail 64,000,000,000, orders-fail 256,000,008,000,000
 --   turns-fail 1,023,871,872,008,004,000, circles-fail 31,960,016,000
 --   first-twice, last-twice   one end of a segment in the place of both is no answer, at R of 1,000,000,000,000,000
@@ -18,9 +18,9 @@ use Rattle.sheet.specs.Answers.{answer, signed_says, meeting_numbers, crossing_s
 use Rattle.sheet.specs.AnswersLaws.{accepted}
 use Rattle.sheet.specs.AcceptsLaws.{cross-taken}
 use Rattle.sheet.specs.Cases.{minus, segment, at}
-use Rattle.cut.specs.Demand.{at-the-small-bound}
-use Rattle.cut.specs.WorkedBounds as worked
-use Rattle.cut.specs.WorkedBounds.{R-ends, steep, R-meet, top-side, corner, R-crossing, upper, lower, shared, R-side, left-side, farthest, R-order, still, below, R-turn, from, to, beside, R-circle, middle, lowest, highest, straight-down}
+use Rattle.cut.proofs.AtTheBounds.{at-the-small-bound}
+use Rattle.cut.proofs.WorkedBounds as worked
+use Rattle.cut.proofs.WorkedBounds.{R-ends, steep, R-meet, top-side, corner, R-crossing, upper, lower, shared, R-side, left-side, farthest, R-order, still, below, R-turn, from, to, beside, R-circle, middle, lowest, highest, straight-down}
 use Rattle.demand.specs.Said.{EndsSaid, ends_given, OrderSaid, order_given, TurnSaid, turn_given, CircleSaid, circle_given, SideSaid, side_given, Exactly, CodeHolds, CodeAt}
 
 -- ---- an answer to what is accepted

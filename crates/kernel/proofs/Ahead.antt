@@ -23,7 +23,7 @@ use Rattle.whole.specs.Tests.{out, eq_flag}
 use Rattle.sheet.specs.declared.Point.{Point}
 use Rattle.sheet.specs.Figure.{Vec, vec, ◌⇀◌}
 use Rattle.sheet.specs.Points.{size}
-use Rattle.sheet.specs.RefusalLaws.{WithinBoth, Proper}
+use Rattle.sheet.proofs.RefusalLaws.{WithinBoth, Proper}
 use Rattle.sheet.specs.Ends.{moment, flat, steep, far_raw, far_end, reverse}
 use Rattle.sheet.specs.Crossing.{Meeting, point}
 use Rattle.kernel.specs.Bounds.{Direction, Ahead, Out}

@@ -11,7 +11,7 @@ use Rattle.sheet.specs.declared.Signed.TheVariants.{Sign, Refused}
 use Rattle.sheet.specs.Answers.{answer, signed_says}
 use Rattle.sheet.specs.AnswersLaws.{refused, accepted, by_answer, signed-one}
 use Rattle.sheet.specs.Circle.{side_of_circle, circle_refusal, Repeats}
-use Rattle.sheet.specs.CircleLaws.{circle-swap-first, circle-swap-middle, circle-repeats, refusal-swap-first, refusal-swap-middle}
+use Rattle.sheet.proofs.CircleLaws.{circle-swap-first, circle-swap-middle, circle-repeats, refusal-swap-first, refusal-swap-middle}
 use Rattle.kernel.proofs.circle.side_of_circle.Reads as side-of-circle
 
 -- the other sign, and the same refusal

@@ -13,7 +13,7 @@ use Rattle.sheet.specs.declared.Object.{Object}
 use Rattle.sheet.specs.declared.Point.{Point}
 use Rattle.sheet.specs.Figure.{figure_of, figure}
 use Rattle.sheet.specs.Refusal.{refusal_of, Accepted}
-use Rattle.sheet.specs.RefusalLaws.{by-numbers}
+use Rattle.sheet.proofs.RefusalLaws.{by-numbers}
 use Rattle.kernel.specs.Bounds.{Numbers}
 
 module _ {a b c d e : ℤ} (fa : SFits w64 a) (fb : SFits w64 b) (fc : SFits w64 c) (fd : SFits w64 d) (fe : SFits w64 e) where

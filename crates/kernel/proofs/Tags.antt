@@ -20,7 +20,7 @@ use Rattle.sheet.specs.Answers.{answer, meeting_numbers}
 use Rattle.sheet.specs.AnswersLaws.{ends-one, signed-one, crossing-one}
 use Rattle.sheet.specs.Tags.{tagged}
 use Rattle.sheet.specs.TagLaws.{ends-tag, side-tag, crossing-tag, crossing-tag-second}
-use Rattle.sheet.specs.JointLaws.{kept-tag, kept-tag-second}
+use Rattle.sheet.proofs.JointLaws.{kept-tag, kept-tag-second}
 use Rattle.kernel.proofs.ends.ends_of.Reads as ends_of
 use Rattle.kernel.proofs.signs.side_of.Reads as side-of
 use Rattle.kernel.proofs.crossing.cross.Reads as cross

@@ -9,12 +9,12 @@ use Rattle.whole.specs.Flag.{eq_z}
 use Rattle.whole.specs.Tests.{cond-by, eq_z-true}
 use Rattle.sheet.specs.declared.Point.{Point}
 use Rattle.sheet.specs.Figure.{◌⇀◌, Side, left, bottom, right, top, Figure, segment, ray, line, side, side_of, figure_of}
-use Rattle.sheet.specs.RefusalLaws.{kind-side}
+use Rattle.sheet.proofs.RefusalLaws.{kind-side}
 use Rattle.sheet.specs.Points.{given}
 use Rattle.sheet.specs.Ends.{far_end, reverse, corner, begins, next_side}
 use Rattle.sheet.specs.Crossing.{Meeting, none, point, many, on_side, end_on, sides, with_side}
 use Rattle.sheet.specs.Joint.{is_same_point, is_end, joint_by}
-use Rattle.sheet.specs.JointLaws.{same_point}
+use Rattle.sheet.proofs.JointLaws.{same_point}
 use Rattle.sheet.specs.Flags.{both, either, same_flag}
 use Rattle.kernel.specs.Bounds.{Numbers}
 use Rattle.kernel.specs.Stretches.{side-first, side-second}

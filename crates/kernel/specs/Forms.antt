@@ -16,7 +16,7 @@ use Rattle.whole.specs.Flag.{eq_z}
 use Rattle.whole.specs.Tests.{lt_z-true, lt_z-false, eq-eq_z, ne-eq_z, lt-lt_z, le-lt_z, le-le_z, lt-le_z}
 use Rattle.sheet.specs.declared.Point.{Point}
 use Rattle.sheet.specs.Ends.{flat, steep, far_raw}
-use Rattle.sheet.specs.EndsLaws.{Far, far, flatter, steeper, tie_flat, tie_steep, moving}
+use Rattle.sheet.proofs.EndsLaws.{Far, far, flatter, steeper, tie_flat, tie_steep, moving}
 use Rattle.whole.specs.Choice.{or_else}
 use Rattle.whole.specs.Reify.{reify, reading, solve}
 use Rattle.whole.specs.Order.{pp-dest, nn-pos, ≤-<-trans, ≤-of, <-≤}

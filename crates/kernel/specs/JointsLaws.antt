@@ -17,16 +17,16 @@ use Rattle.sheet.specs.declared.Point.{Point}
 use Rattle.sheet.specs.declared.Crossing.{Crossing}
 use Rattle.sheet.specs.declared.Crossing.TheVariants as crossing
 use Rattle.sheet.specs.Figure.{Vec, vec, ◌⇀◌, Figure, figure, figure_of}
-use Rattle.sheet.specs.RefusalLaws.{Shape, a_segment, a_ray, a_line, a_side}
+use Rattle.sheet.proofs.RefusalLaws.{Shape, a_segment, a_ray, a_line, a_side}
 use Rattle.sheet.specs.Points.{size, given, divided}
 use Rattle.sheet.specs.PointFacts.{OnEdge, Frame}
 use Rattle.sheet.specs.PointsLaws.{frame-divided, standard-divided}
 use Rattle.sheet.specs.Ends.{moment, far_end, reverse}
-use Rattle.sheet.specs.EndsLaws.{Way, proper-way, reverse-way, far-frame}
+use Rattle.sheet.proofs.EndsLaws.{Way, proper-way, reverse-way, far-frame}
 use Rattle.sheet.specs.Crossing.{Meeting, none, point, many, Limit, free, till, Stretch, cross, dot, meeting_point, reaches, skew, later, sooner, between, alike, together, stretches, crossing_of}
-use Rattle.sheet.specs.CrossingLaws.{meeting-standard}
+use Rattle.sheet.proofs.CrossingLaws.{meeting-standard}
 use Rattle.sheet.specs.Joint.{is_same_point, is_end, joint_by, joint, kept}
-use Rattle.sheet.specs.JointLaws.{same_point}
+use Rattle.sheet.proofs.JointLaws.{same_point}
 use Rattle.sheet.specs.Flags.{flags}
 use Rattle.sheet.specs.Answers.{meeting_numbers, crossing_says}
 use Rattle.sheet.specs.AnswersLaws.{crossing-one, crossing-says}

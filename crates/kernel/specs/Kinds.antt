@@ -13,7 +13,7 @@ use Rattle.whole.specs.Tests.{ne-eq_z, eq-left, lit-taken}
 use Rattle.sheet.specs.declared.Point.{Point}
 use Rattle.sheet.specs.Figure.{vec, ◌⇀◌, left, bottom, right, top, Figure, side_of, figure_of}
 use Rattle.sheet.specs.Refusal.{refusal_of}
-use Rattle.sheet.specs.RefusalLaws.{Proper, ASide, side-proper, kind-segment, kind-line, kind-side, Shape, a_segment, a_ray, a_line, a_side, shape}
+use Rattle.sheet.proofs.RefusalLaws.{Proper, ASide, side-proper, kind-segment, kind-line, kind-side, Shape, a_segment, a_ray, a_line, a_side, shape}
 use Rattle.sheet.specs.Points.{given}
 use Rattle.sheet.specs.Signs.{turn, side_of_figure}
 use Rattle.sheet.specs.Ends.{far_end, reverse, begins, next_side, first_of, last_of}

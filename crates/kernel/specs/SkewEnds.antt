@@ -14,17 +14,17 @@ use Rattle.whole.specs.Flag.{eq_z}
 use Rattle.whole.specs.Tests.{eq_z-true, eq_z-false, eq-eq_z}
 use Rattle.sheet.specs.declared.Point.{Point}
 use Rattle.sheet.specs.Figure.{Vec, ◌⇀◌}
-use Rattle.sheet.specs.RefusalLaws.{WithinBoth, Proper}
+use Rattle.sheet.proofs.RefusalLaws.{WithinBoth, Proper}
 use Rattle.sheet.specs.Points.{size, given, divisor, divided}
 use Rattle.sheet.specs.PointFacts.{Standard, a_standard}
 use Rattle.sheet.specs.PointsLaws.{Times, divided-back, divisor-above, divided-one, standard-divided, in-proportion}
 use Rattle.sheet.specs.Ends.{moment}
-use Rattle.sheet.specs.EndsLaws.{proper-way, given-fine}
+use Rattle.sheet.proofs.EndsLaws.{proper-way, given-fine}
 use Rattle.sheet.specs.Crossing.{line_stretch, cross, meeting_point}
-use Rattle.sheet.specs.CrossingLaws.{meeting-standard}
+use Rattle.sheet.proofs.CrossingLaws.{meeting-standard}
 use Rattle.sheet.specs.Flags.{same_flag}
 use Rattle.sheet.specs.Joint.{is_same_point}
-use Rattle.sheet.specs.JointLaws.{same_point}
+use Rattle.sheet.proofs.JointLaws.{same_point}
 
 -- ---- one number: n = w v + (h - c) d, and the divisor m takes it to n = m n', w = m w'
 

@@ -24,7 +24,7 @@ use Rattle.whole.specs.Flag.{eq_z}
 use Rattle.whole.specs.Tests.{eq-eq_z, ne-eq_z, lt-lt_z, le-lt_z}
 use Rattle.sheet.specs.declared.Point.{Point}
 use Rattle.sheet.specs.Figure.{Vec, vec, ◌⇀◌, Side, left, bottom, right, top, out_x, out_y, Figure, segment, ray, line, side_of, figure_of}
-use Rattle.sheet.specs.RefusalLaws.{kind-segment, kind-ray, kind-side, Shape, a_segment, a_ray, a_line, a_side}
+use Rattle.sheet.proofs.RefusalLaws.{kind-segment, kind-ray, kind-side, Shape, a_segment, a_ray, a_line, a_side}
 use Rattle.sheet.specs.Points.{given, divided, divisor}
 use Rattle.sheet.specs.PointsLaws.{divided-back, divisor-above}
 use Rattle.sheet.specs.Ends.{far_end, reverse, corner}

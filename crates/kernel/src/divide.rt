@@ -9,7 +9,7 @@ ghost use Rattle.kernel.specs.Bounds.{Raw, PartBounds};
 use sheet::Point;
 
 // Two sizes, the smaller one first; but of two that are not both 0, a 0 is second.
-#[derive(Drop)]
+#[derive(Clone, Copy)]
 struct Two {
     first: u64,
     second: u64,

@@ -25,6 +25,8 @@
 // code. All but the turn hold from 1,000,000,000,000,000 on, as crate cut shows.
 //
 // The side of circle goes another way: its coefficients do not fit, and circle.rt says how its sign is found without them.
+#![tactic(auto)]
+
 pub mod circle;
 pub mod crossing;
 mod divide;

@@ -15,13 +15,13 @@ use Rattle.sheet.specs.declared.Ends.TheVariants as ends
 use Rattle.sheet.specs.Refusal.{object_refusal, Accepted}
 use Rattle.sheet.specs.Points.{numbers}
 use Rattle.sheet.specs.Ends.{first_end, last_end}
-use Rattle.sheet.specs.EndsLaws.{first-end-fine, last-end-fine}
+use Rattle.sheet.proofs.EndsLaws.{first-end-fine, last-end-fine}
 use Rattle.sheet.specs.Extent.{left_end, right_end}
 use Rattle.sheet.specs.Answers.{answer, ends_say}
 use Rattle.sheet.specs.AnswersLaws.{accepted, ends-one}
 use Rattle.sheet.specs.Lists.{count_of}
 use Rattle.sheet.specs.Listable.{Listable}
-use Rattle.cut.specs.LeftLaws.{left-end-fine, right-end-fine}
+use Rattle.cut.proofs.LeftLaws.{left-end-fine, right-end-fine}
 use Rattle.listing.specs.declared.extents.Mark.{Mark}
 use Rattle.listing.specs.declared.extents.Extent.{Extent}
 use Rattle.listing.specs.Marks.{mark, mark_of, OfEnd, Sound, is_left_mark, extent_by, extent_of, mark_numbers, mark_from, mark_at, left_mark, right_mark, Held, Marked}

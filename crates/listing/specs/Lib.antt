@@ -20,4 +20,3 @@ pub mod OrderLaws
 pub mod SpansLaws
 pub mod BlocksLaws
 pub mod RunsLaws
-pub mod NearLaws

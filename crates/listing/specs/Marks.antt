@@ -5,7 +5,7 @@ use Rattle.whole.specs.Flag.{eq_z}
 use Rattle.whole.specs.Within.{Within}
 use Rattle.sheet.specs.declared.Object.{Object}
 use Rattle.sheet.specs.declared.Point.{Point}
-use Rattle.sheet.specs.EndsLaws.{Fine}
+use Rattle.sheet.proofs.EndsLaws.{Fine}
 use Rattle.sheet.specs.Extent.{is_left, left_end, right_end}
 use Rattle.sheet.specs.Lists.{number, object_at}
 use Rattle.listing.specs.declared.extents.Mark.{Mark}

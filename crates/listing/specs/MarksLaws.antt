@@ -18,10 +18,10 @@ use Rattle.whole.specs.Choice.{or_else}
 use Rattle.whole.specs.ChoiceLaws.{or-next, or-ne}
 use Rattle.sheet.specs.declared.Point.{Point}
 use Rattle.sheet.specs.PointsLaws.{point-sizes}
-use Rattle.sheet.specs.EndsLaws.{Fine}
+use Rattle.sheet.proofs.EndsLaws.{Fine}
 use Rattle.sheet.specs.Expansions.{order-in-x}
 use Rattle.sheet.specs.Extent.{is_left}
-use Rattle.cut.specs.LeftLaws as points
+use Rattle.cut.proofs.LeftLaws as points
 use Rattle.listing.specs.declared.extents.Mark.{Mark}
 use Rattle.listing.specs.Marks.{mark_of, OfEnd, Sound, is_left_mark}
 

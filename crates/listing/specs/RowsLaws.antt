@@ -18,7 +18,7 @@ use Rattle.sheet.specs.Limits.{most}
 use Rattle.sheet.specs.Points.{numbers}
 use Rattle.sheet.specs.Crossing.{Meeting, none, point, many, crossing_of}
 use Rattle.sheet.specs.Joint.{joint}
-use Rattle.sheet.specs.JointLaws.{kept-asked, kept-left}
+use Rattle.sheet.proofs.JointLaws.{kept-asked, kept-left}
 use Rattle.sheet.specs.Lists.{row_width, count_of, object_at}
 use Rattle.listing.specs.Rows.{meeting_of, is_some, makes_row, shared, tags_of, row_of, rows_with, rows_of, pair_count, sharing_with, sharing}
 use Rattle.listing.specs.Pairs.{rows_between, Section, pairs_of}

@@ -14,7 +14,7 @@ use Rattle.sheet.specs.Lists.{count_of}
 use Rattle.sheet.specs.Listable.{Listable}
 use Rattle.listing.specs.Near.{near_of}
 use Rattle.listing.specs.Order.{at}
-use Rattle.listing.specs.Spans.{Spans, near_span, Scan, Blocks}
+use Rattle.listing.specs.Spans.{Spans, near_span, Scan}
 use Rattle.listing.specs.SpansLaws.{spans-near}
 use Rattle.listing.specs.BlocksLaws.{before_more}
 use Rattle.listing.specs.Runs.{in_runs, Runs, NearRuns, Chosen, Known, Choice, every_one, near_ones}

@@ -18,7 +18,7 @@ use Rattle.sheet.specs.PointFacts.{APoint}
 use Rattle.sheet.specs.Extent.{is_left, left_end, right_end, ends_before, near}
 use Rattle.sheet.specs.Lists.{count_of, object_at}
 use Rattle.sheet.specs.Listable.{Listable}
-use Rattle.cut.specs.LeftLaws.{left-self, left_not, most-trans, most-less-trans, left-end-fine, right-end-fine}
+use Rattle.cut.proofs.LeftLaws.{left-self, left_not, most-trans, most-less-trans, left-end-fine, right-end-fine}
 use Rattle.listing.specs.declared.extents.Mark.{Mark}
 use Rattle.listing.specs.Near.{near_of, not_right, low_of, high_of}
 use Rattle.listing.specs.Marks.{mark_of, mark_at, is_left_mark, left_mark, right_mark, Held}

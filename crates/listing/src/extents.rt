@@ -10,7 +10,7 @@ use sheet::lists::object_at;
 use sheet::{Ends, Object, Point};
 
 // x of an end, (m R + n)/w.
-#[derive(Drop)]
+#[derive(Clone, Copy)]
 pub struct Mark {
     pub m: i64,
     pub n: i64,
@@ -18,7 +18,7 @@ pub struct Mark {
 }
 
 // The marks of an object's two ends, the left one first.
-#[derive(Drop)]
+#[derive(Clone, Copy)]
 pub struct Extent {
     pub left: Mark,
     pub right: Mark,

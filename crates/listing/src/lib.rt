@@ -1,11 +1,14 @@
 // The listing: a list of objects in, the rows of the pairs that share something out. A list is numbers, six an object. Joints, pairs whose one
 // common point is an end of both, are left out of rows, counts and lengths unless the caller asks for them.
+#![tactic(auto)]
+
 mod blocks; // blocks.rt: spans of several objects together
 mod extents; // extents.rt: the x of left ends and of right ends
 mod order; // order.rt: the objects in the order of their left ends
 mod runs; // runs.rt: which later objects an object is compared with
 mod spans; // spans.rt: two numbers an object, which tell what stands apart
-mod pairs; // pairs.rt: the pairs that are compared, in their order, and whether their rows have room
+mod near_pairs; // near_pairs.rt: the same of those that are near
+mod pairs; // pairs.rt: which pairs, in which order, and whether their rows have room
 mod rows; // rows.rt: what two objects share, and the row that tells it
 
 ghost use Rattle.std.specs.Prelude.{◌≡◌, length};
@@ -25,7 +28,7 @@ use sheet::lists::list_refusal;
 use sheet::refusal::NO_OBJECT;
 
 // What a listing answers: 0, how many rows, and how many numbers they are; or a refusal with 0 and 0, refusal 10 with the length needed.
-#[derive(Drop)]
+#[derive(Clone, Copy)]
 pub struct Listed {
     pub refusal: i64,
     pub rows: usize,
@@ -59,9 +62,7 @@ pub fn list_one(list: &[i64], i: usize, joints: bool, out: &mut [i64]) -> Listed
             length: 0,
         };
     }
-    let none = [0; 0];
-    let mut run = [0; RUN];
-    list_pairs(list, &none, &none, &none, &mut run, i, i + 1, joints, out)
+    list_pairs(list, i, i + 1, joints, out)
 }
 
 // The rows of all pairs, by i and then j, at the front of a lent list.
@@ -77,19 +78,7 @@ pub fn list_all(list: &[i64], joints: bool, out: &mut [i64]) -> Listed
             length: 0,
         };
     }
-    let none = [0; 0];
-    let mut run = [0; RUN];
-    list_pairs(
-        list,
-        &none,
-        &none,
-        &none,
-        &mut run,
-        0,
-        list.len() / Object::WIDTH,
-        joints,
-        out,
-    )
+    list_pairs(list, 0, list.len() / Object::WIDTH, joints, out)
 }
 
 // What near objects are known by: their spans, and those of blocks of them.
@@ -122,7 +111,7 @@ pub fn list_near(list: &[i64], joints: bool, out: &mut [i64]) -> Listed
     let mut inner = [0; BLOCKS * SPAN];
     let mut runs = [0; Object::MOST * RUN];
     choose_near(list, &mut spans, &mut outer, &mut inner);
-    list_pairs(
+    near_pairs::list_pairs(
         list,
         &spans,
         &outer,

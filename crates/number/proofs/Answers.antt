@@ -4,6 +4,7 @@ use mathlib.Core.List.{List}
 use Prim.Native.Nat.{ℕ}
 use contract.Lifetimes.{Lfts}
 use denote.Ref.{Bor}
+use denote.MutBor.{MutBor}
 use Rattle.number.specs.declared.Number.{Number}
 use Rattle.number.proofs.read_number.Reads as read_number
 use Rattle.number.proofs.stored_size.Reads as stored-size
@@ -20,7 +21,7 @@ pub stored-size-answer :
 stored-size-answer κs numbers r s p q = p ∙ sym q
 
 pub put-stored-answer :
-    (κs : Lfts 2) (numbers out d e : Bor (List ℕ)) (at r s : ℕ)
+    (κs : Lfts 2) (numbers : Bor (List ℕ)) (out d e : MutBor (List ℕ)) (at r s : ℕ)
     → put-stored.Post κs (numbers, (out, (at, tt))) r (numbers, (d, (at, tt))) → put-stored.Post κs (numbers, (out, (at, tt))) s (numbers, (e, (at, tt)))
     → (r ≡ s) × (d.now ≡ e.now)
 put-stored-answer κs numbers out d e at r s p q = (p.0.place ∙ sym q.0.place, p.0.cells ∙ sym q.0.cells)

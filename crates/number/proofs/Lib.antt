@@ -1,2 +1,10 @@
 pub mod Answers
 pub mod RoundTrip
+pub mod GroupsLaws
+pub mod NumberLaws
+pub mod ReadGroupsLaws
+pub mod ReadingLaws
+pub mod SameLaws
+pub mod TripLaws
+pub mod WritingLaws
+pub mod WrittenLaws

@@ -11,15 +11,16 @@ use lib.ListN.{length, take, drop, length-append}
 use lib.Seq.{take_at}
 use contract.Lifetimes.{Lfts}
 use denote.Ref.{Bor}
+use denote.MutBor.{MutBor}
 use Rattle.whole.specs.Tests.{eq_z-false}
 use Rattle.sheet.specs.Lent.{Wrote}
 use Rattle.sheet.specs.LentLaws.{clipped-is, wrote_as, wrote-size, wrote-front}
 use Rattle.number.specs.declared.Number.{Number}
 use Rattle.number.specs.Number.{Bytes, number_limit, write_number, write_numbers, Reading, read_number, number_of}
 use Rattle.number.specs.ReadsNumber.{ReadsNumber, taken, cut, wrong}
-use Rattle.number.specs.GroupsLaws.{number-most}
-use Rattle.number.specs.WrittenLaws.{number-alone}
-use Rattle.number.specs.TripLaws.{number-back, number-exact}
+use Rattle.number.proofs.GroupsLaws.{number-most}
+use Rattle.number.proofs.WrittenLaws.{number-alone}
+use Rattle.number.proofs.TripLaws.{number-back, number-exact}
 use Rattle.number.proofs.read_number.Reads as ReadNumber
 use Rattle.number.proofs.put_stored.Reads as put-stored
 
@@ -33,7 +34,7 @@ pub reads-exactly :
 reads-exactly κs bytes r h p = record { reading = read_number bytes.now; answered = p.0; exact = number-exact bytes.now h }
 
 -- one number is put at the front
-module _ (κs : Lfts 2) (numbers lent after : Bor (List ℕ)) (size n : ℕ) (one : numbers.now ≡ n ∷ []) (stored : n < number_limit)
+module _ (κs : Lfts 2) (numbers : Bor (List ℕ)) (lent after : MutBor (List ℕ)) (size n : ℕ) (one : numbers.now ≡ n ∷ []) (stored : n < number_limit)
     (put : put-stored.Post κs (numbers, (lent, (0, tt))) size (numbers, (after, (0, tt)))) where
   was-put : Wrote lent.now after.now 0 size (write_number n)
   was-put = wrote_as put.0 (ap write_numbers one ∙ number-alone stored)

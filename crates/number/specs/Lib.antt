@@ -7,13 +7,5 @@ pub mod WorkedNumber
 pub mod ReadAs
 pub mod Storable
 -- laws
-pub mod GroupsLaws
-pub mod ReadGroupsLaws
-pub mod ReadingLaws
-pub mod WritingLaws
-pub mod WrittenLaws
-pub mod NumberLaws
 pub mod ReadAsLaws
 pub mod ZigzagLaws
-pub mod TripLaws
-pub mod SameLaws

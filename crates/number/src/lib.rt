@@ -1,5 +1,7 @@
 // Stored numbers: the number that bytes begin with, and the bytes of numbers. The only place that knows groups of seven bits, on the way
 // in and on the way out. The definitions are in specs/Number.antt.
+#![tactic(auto)]
+
 ghost use Rattle.std.specs.Prelude.{◌≡◌, ◌+◌, ◌-◌, ◌<◌, ◌≤◌, min, pos, length};
 ghost use Rattle.sheet.specs.Lent.{Wrote};
 ghost use Rattle.number.specs.Storable.{all_storable};
@@ -9,7 +11,7 @@ use sheet::lent::behind;
 use sheet::refusal::{BAD_NUMBER, BYTES_END};
 
 // A stored number and how many bytes it takes, or the number of the refusal.
-#[derive(Drop)]
+#[derive(Clone, Copy)]
 pub struct Number {
     pub refusal: i64,
     pub value: u64,
@@ -50,7 +52,7 @@ fn refused(refusal: i64) -> Number
 pub fn read_number(bytes: &[u8]) -> Number
     ensures told { result ≡ number_of bytes.now (read_number bytes.now) }
     ensures small { result.value < number_limit }
-    ensures* names { do ⌜ (← (⟦Number::GROUP⟧).entry) ≡ group ⌝ }
+    ensures names { Number.GROUP ≡ group }
 {
     if bytes.len() == 0 {
         return refused(BYTES_END);
@@ -186,7 +188,7 @@ fn put_number(n: u64, out: &mut [u8], at: usize) -> usize
 // looked for: so it is with all objects of a drawing but the last ones.
 pub fn put_stored(numbers: &[u64], out: &mut [u8], at: usize) -> usize
     ensures put { Wrote out.old out.new at result (write_numbers numbers.now) }
-    ensures* names { do ⌜ ((← (⟦Number::MOST⟧).entry) ≡ most_groups) × ((← (⟦Number::LARGEST⟧).entry) ≡ largest_number) ⌝ }
+    ensures names { (Number.MOST ≡ most_groups) × (Number.LARGEST ≡ largest_number) }
 {
     let room = room_from(out.len(), at);
     let direct = are_storable(numbers) & (numbers.len() * Number::MOST <= room);

@@ -2,6 +2,8 @@
 // specs/Text.antt, what a call answers in specs/Put.antt, words and numbers in decimal.
 //
 // Each text is put twice by the same functions: into no bytes, which gives its length, and then, where it fits, into the lent ones.
+#![tactic(auto)]
+
 ghost use Rattle.std.specs.Prelude.{◌≡◌, [], ◌∷◌, ◌++◌, ◌*◌, ◌≤◌, pos, length};
 ghost use Rattle.sheet.specs.Lent.{filled, Wrote};
 ghost use Rattle.sheet.specs.Lists.{row_width};
@@ -17,7 +19,7 @@ use sheet::refusal::{LIST_LENGTH, NO_ROOM};
 use whole::size;
 
 // 0 and the length of the text, or the number of the refusal. With 10 comes the length needed.
-#[derive(Drop)]
+#[derive(Clone, Copy)]
 pub struct Put {
     pub refusal: i64,
     pub length: usize,

@@ -7,7 +7,7 @@ use denote.Ref.{Bor}
 use Rattle.sheet.specs.declared.Point.{Point}
 use Rattle.screen.specs.declared.OnScreen.{OnScreen}
 use Rattle.screen.specs.declared.Boxed.{Boxed}
-use Rattle.screen.specs.PlacesLaws.{place-one}
+use Rattle.screen.proofs.PlacesLaws.{place-one}
 use Rattle.screen.specs.BoxesLaws.{box-one}
 use Rattle.screen.proofs.places.place_of.Reads as place_of
 use Rattle.screen.proofs.boxes.box_of.Reads as box_of

@@ -1,2 +1,10 @@
 pub mod Answers
 pub mod Shows
+pub mod Apart
+pub mod BoxShown
+pub mod EqualPlaces
+pub mod PlaceShown
+pub mod PlacesLaws
+pub mod QuotientLaws
+pub mod Surrounds
+pub mod Worked

@@ -20,10 +20,10 @@ use Rattle.kernel.proofs.ends.ends_of.Reads as ends_of
 use Rattle.screen.specs.declared.OnScreen.{OnScreen}
 use Rattle.screen.specs.declared.Boxed.{Boxed}
 use Rattle.screen.specs.Shown.{Shown, EndIn, Parallel, BoxShown}
-use Rattle.screen.specs.PlaceShown.{shown}
-use Rattle.screen.specs.EqualPlaces.{places-equal}
+use Rattle.screen.proofs.PlaceShown.{shown}
+use Rattle.screen.proofs.EqualPlaces.{places-equal}
 use Rattle.screen.specs.EndsApart.{end-narrow, end-lined, lined-apart}
-use Rattle.screen.specs.BoxShown.{box-shown}
+use Rattle.screen.proofs.BoxShown.{box-shown}
 use Rattle.screen.proofs.places.place_of.Reads as place_of
 use Rattle.screen.proofs.boxes.box_of.Reads as box_of
 

@@ -20,7 +20,7 @@ use Rattle.sheet.specs.Figure.{Vec, vec, Figure, segment, ray, line, side, side_
 use Rattle.sheet.specs.Refusal.{Accepted}
 use Rattle.sheet.specs.Lists.{count_of}
 use Rattle.sheet.specs.Listable.{Listable}
-use Rattle.sheet.specs.RefusalLaws.{WithinBoth, Taken, a_segment, a_ray, a_line, a_side, accepted-taken}
+use Rattle.sheet.proofs.RefusalLaws.{WithinBoth, Taken, a_segment, a_ray, a_line, a_side, accepted-taken}
 use Rattle.screen.specs.declared.SheetBox.{SheetBox}
 use Rattle.screen.specs.declared.Boxed.{Boxed}
 use Rattle.screen.specs.declared.Boxed.TheVariants.{Around, Refused}
@@ -138,7 +138,7 @@ farthest-within : (up : Bool) (axis : ℕ) {z : ℤ} (vs : List Vec) → AllSmal
 unfolding farthest
 farthest-within up axis [] n h = h
 farthest-within up axis {z} (v ∷ vs) (s also n) h =
-    farthest-within up axis vs n (cond-by (Within 2000) (passes up z (part axis v)) (λ e. part-within axis s) (λ e. h))
+    farthest-within up axis {z = farther up z (part axis v)} vs n (cond-by (Within 2000) (passes up z (part axis v)) (λ e. part-within axis s) (λ e. h))
 
 pub extreme-within : (up : Bool) (axis : ℕ) (vs : List Vec) → AllSmall vs → Within 2000 (extreme up axis vs)
 unfolding extreme

@@ -3,7 +3,7 @@
 --   Lined, end-lined   and lies on the line of the object's p and q, where that is no side
 --   lined-apart        two parallel objects with different k have no such end in common
 -- Assumes nothing.
-use Rattle.std.specs.Prelude.{◌≡◌, refl, true, [], ◌∷◌, ◌++◌, ℤ, pos, negsuc, ◌-ℤ◌, ◌*ℤ◌, ◌<ℤ◌}
+use Rattle.std.specs.Prelude.{◌≡◌, refl, true, [], ◌∷◌, ◌++◌, pos, negsuc, ◌-ℤ◌, ◌*ℤ◌, ◌<ℤ◌}
 use Rattle.std.proofs.Common.{sym, inl, inr}
 use Rattle.std.proofs.Math.Path.{subst}
 use Rattle.whole.specs.Laws.{eq-of-sub}
@@ -20,10 +20,10 @@ use Rattle.sheet.specs.Ends.{moment, reverse, first_of, last_of, first_end, last
 use Rattle.sheet.specs.Crossing.{cross}
 use Rattle.sheet.specs.Answers.{answer, ends_say}
 use Rattle.sheet.specs.AnswersLaws.{ends-one, by_answer}
-use Rattle.sheet.specs.RefusalLaws.{Proper, Taken, a_segment, a_ray, a_line, a_side, accepted-taken}
+use Rattle.sheet.proofs.RefusalLaws.{Proper, Taken, a_segment, a_ray, a_line, a_side, accepted-taken}
 use Rattle.sheet.specs.PointsLaws.{point-is, point-sizes}
-use Rattle.sheet.specs.EndsLaws.{proper-way, reverse-way, first-end-is-point, last-end-is-point}
-use Rattle.sheet.specs.OnLine.{OnLine, on-line-given, on-line-back, far-on-line, parallel, cross-self, cross-same, cross-turned}
+use Rattle.sheet.proofs.EndsLaws.{proper-way, reverse-way, first-end-is-point, last-end-is-point}
+use Rattle.sheet.proofs.OnLine.{OnLine, on-line-given, on-line-back, far-on-line, parallel, cross-self, cross-same, cross-turned}
 use Rattle.screen.specs.Shown.{EndIn, Parallel}
 
 -- f, which is not 0, is parallel to d. So the point is on the line through r in the direction d too, and w k is the same for both.

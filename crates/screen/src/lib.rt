@@ -1,10 +1,12 @@
 // Places on the screen: where a point is, as floats, and the box of a whole sheet. Every public call takes any numbers.
+#![tactic(auto)]
+
 pub mod boxes;
 pub mod places;
 mod quotient;
 
 // Where a point is: a position x, y; the number of a frame side, the slope toward it and the offset along it; or the number of the refusal.
-#[derive(Drop)]
+#[derive(Clone, Copy)]
 pub enum OnScreen {
     At(f64, f64),
     Edge(i64, f64, f64),
@@ -12,14 +14,14 @@ pub enum OnScreen {
 }
 
 // A position, as floats.
-#[derive(Drop)]
+#[derive(Clone, Copy)]
 pub struct Position {
     pub x: f64,
     pub y: f64,
 }
 
 // A box: the lowest and the highest x and y, and whether there is nothing to be around, where all four are +0.
-#[derive(Drop)]
+#[derive(Clone, Copy)]
 pub struct SheetBox {
     pub low: Position,
     pub high: Position,
@@ -27,7 +29,7 @@ pub struct SheetBox {
 }
 
 // The box that was asked for, or the number of the refusal.
-#[derive(Drop)]
+#[derive(Clone, Copy)]
 pub enum Boxed {
     Around(SheetBox),
     Refused(i64),

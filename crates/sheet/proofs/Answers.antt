@@ -6,6 +6,7 @@ use Prim.Native.Nat.{ℕ}
 use lib.IntN.{ℤ}
 use contract.Lifetimes.{Lfts}
 use denote.Ref.{Bor}
+use denote.MutBor.{MutBor}
 use Rattle.sheet.specs.declared.Object.{Object}
 use Rattle.sheet.specs.declared.Point.{Point}
 use Rattle.sheet.specs.declared.Made.{Made}
@@ -77,13 +78,13 @@ pub behind-answer :
 behind-answer κs at count r s p q = p ∙ sym q
 
 pub put-byte-answer :
-    (κs : Lfts 1) (b : ℕ) (out d e : Bor (List ℕ)) (at r s : ℕ)
+    (κs : Lfts 1) (b : ℕ) (out d e : MutBor (List ℕ)) (at r s : ℕ)
     → put_byte.Post κs (b, (out, (at, tt))) r (b, (d, (at, tt))) → put_byte.Post κs (b, (out, (at, tt))) s (b, (e, (at, tt)))
     → (r ≡ s) × (d.now ≡ e.now)
 put-byte-answer κs b out d e at r s p q = (p.place ∙ sym q.place, p.cells ∙ sym q.cells)
 
 pub put-numbers-answer :
-    (κs : Lfts 2) (numbers out d e : Bor (List ℤ)) (at r s : ℕ)
+    (κs : Lfts 2) (numbers : Bor (List ℤ)) (out d e : MutBor (List ℤ)) (at r s : ℕ)
     → put-numbers.Post κs (numbers, (out, (at, tt))) r (numbers, (d, (at, tt))) → put-numbers.Post κs (numbers, (out, (at, tt))) s (numbers, (e, (at, tt)))
     → (r ≡ s) × (d.now ≡ e.now)
 put-numbers-answer κs numbers out d e at r s p q = (p.place ∙ sym q.place, p.cells ∙ sym q.cells)

@@ -1,1 +1,11 @@
 pub mod Answers
+pub mod Angles
+pub mod CircleLaws
+pub mod CrossingLaws
+pub mod EndsLaws
+pub mod JointLaws
+pub mod OnLine
+pub mod RefusalLaws
+pub mod RefusalTableLaws
+pub mod ReversedLaws
+pub mod SignsLaws

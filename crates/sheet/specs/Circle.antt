@@ -1,6 +1,6 @@
 -- "Side of circle": "the report's fourth predicate: the sign of its four by four determinant, as printed in section 3.3". Its rows are 1, x, y
 -- and x x + y y, its columns the four points in order. Where the first three turn left the sign is 1 outside of the circle through them, 0 on
--- it and -1 inside; where they turn right it is the other way round; `cut/specs/Round` proves it.
+-- it and -1 inside; where they turn right it is the other way round; `cut/proofs/Round` proves it.
 use Rattle.std.specs.Prelude.{◌≡◌, Bool, cond, not, ◌&&◌, ◌||◌, ℤ, pos}
 use Rattle.whole.specs.Poly.{Poly, ◌⊞◌, ◌⊟◌, ◌⊠◌, leading}
 use Rattle.whole.specs.Flag.{eq_z}

@@ -34,26 +34,13 @@ pub mod Meetings
 pub mod Listable
 -- laws: objects and points
 pub mod Flags
-pub mod RefusalLaws
 pub mod PointsLaws
 pub mod AcceptsLaws
 pub mod TagLaws
--- laws: ends
-pub mod EndsLaws
 -- laws: signs
-pub mod SignsLaws
 pub mod Expansions
-pub mod ReversedLaws
 pub mod InsideLaws
--- laws: the side of circle
-pub mod CircleLaws
-pub mod Angles
--- laws: crossing
-pub mod OnLine
-pub mod CrossingLaws
-pub mod JointLaws
 -- laws: lists and answers
 pub mod ListsLaws
 pub mod LentLaws
 pub mod AnswersLaws
-pub mod RefusalTableLaws

@@ -2,7 +2,6 @@
 use Rattle.std.specs.Prelude.{cond, ◌&&◌, ℤ, pos}
 use Rattle.whole.specs.Poly.{Poly, ◌⊞◌, ◌⊟◌, ◌⊠◌, leading}
 use Rattle.whole.specs.Choice.{or_else}
-use Rattle.whole.specs.Flag.{eq_z}
 use Rattle.sheet.specs.declared.Object.{Object}
 use Rattle.sheet.specs.declared.Point.{Point}
 use Rattle.sheet.specs.Figure.{Figure, segment, ray, line, side, figure, figure_of}
@@ -10,15 +9,16 @@ use Rattle.sheet.specs.Refusal.{object_refusal}
 use Rattle.sheet.specs.Points.{X, Y, W, narrow, point_refusal, given}
 use Rattle.sheet.specs.Ends.{begins, next_side}
 
--- "Order of two points: x first, then y." The sign of x of p less that of q, and the same of y
+-- the sign of x of p less that of q, and the same of y
 abbrev pub order_in_x : Point → Point → ℤ
 order_in_x p q = leading (X p ⊠ W q ⊟ X q ⊠ W p)
 
 abbrev pub order_in_y : Point → Point → ℤ
 order_in_y p q = leading (Y p ⊠ W q ⊟ Y q ⊠ W p)
 
+-- "Order of two points: x first, then y."
 unfoldable pub order : Point → Point → ℤ
-order p q = or_else (order_in_x p q) (order_in_y p q)
+order p q = or_else (leading (X p ⊠ W q ⊟ X q ⊠ W p)) (leading (Y p ⊠ W q ⊟ Y q ⊠ W p))
 
 -- "w1(X2 Y3 - X3 Y2) - w2(X1 Y3 - X3 Y1) + w3(X1 Y2 - X2 Y1)"
 unfoldable pub turn_poly : Point → Point → Point → Poly

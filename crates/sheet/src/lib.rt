@@ -1,4 +1,6 @@
 // The vocabulary of a clearance sheet: objects, points, and what a call answers. The paper's definitions are in specs/.
+#![tactic(auto)]
+
 pub mod lent;
 pub mod lists;
 pub mod refusal;
@@ -14,7 +16,7 @@ ghost use Rattle.sheet.specs.Ends.{corner};
 // An object of a sheet. Kind 1 is a segment, 2 a ray, 3 a line, each from p toward q; kind 4 is the frame's side of number px. The tag tells
 // which layer it is of, and nothing else depends on it.
 #[repr(C)]
-#[derive(Drop)]
+#[derive(Clone, Copy)]
 pub struct Object {
     pub kind: i64,
     pub px: i64,
@@ -26,7 +28,7 @@ pub struct Object {
 
 // A point: x is (mx R + nx)/w and y is (my R + ny)/w, where the frame goes from -R to R; what holds, holds for every large R.
 #[repr(C)]
-#[derive(Drop)]
+#[derive(Clone, Copy)]
 pub struct Point {
     pub mx: i64,
     pub nx: i64,
@@ -36,28 +38,28 @@ pub struct Point {
 }
 
 // An object that was asked for, or the number of the refusal.
-#[derive(Drop)]
+#[derive(Clone, Copy)]
 pub enum Made {
     Done(Object),
     Refused(i64),
 }
 
 // The two ends of an object in its direction, or the number of the refusal.
-#[derive(Drop)]
+#[derive(Clone, Copy)]
 pub enum Ends {
     Both(Point, Point),
     Refused(i64),
 }
 
 // A sign: -1, 0 or 1; or the number of the refusal.
-#[derive(Drop)]
+#[derive(Clone, Copy)]
 pub enum Signed {
     Sign(i64),
     Refused(i64),
 }
 
 // What two objects share: nothing, one point, or many; or the number of the refusal.
-#[derive(Drop)]
+#[derive(Clone, Copy)]
 pub enum Crossing {
     Nothing,
     Once(Point),
@@ -244,7 +246,7 @@ fn tag_refusal(tag: i64) -> i64
 // The refusal of an object: 1, then 4 for kind 4, else 2 and then 3; then 15; 0 for none. The brackets hold the type's numbers to the paper's.
 pub fn object_refusal(o: Object) -> i64
     ensures value { result ≡ object_refusal o }
-    ensures* fact { do ⌜ ((← (⟦Object::REACH⟧).entry) ≡ reach) × ((← (⟦Object::MOST⟧).entry) ≡ most) × ((← (⟦Object::LAST_TAG⟧).entry) ≡ last_tag) × ((← (⟦Object::WIDTH⟧).entry) ≡ width) ⌝ }
+    ensures names { (Object.REACH ≡ reach) × (Object.MOST ≡ most) × (Object.LAST_TAG ≡ last_tag) × (Object.WIDTH ≡ width) }
 {
     let shape = refusal_of(o.kind, o.px, o.py, o.qx, o.qy);
     let tag = tag_refusal(o.tag);

@@ -6,6 +6,7 @@ use Prim.Native.Nat.{ℕ}
 use lib.IntN.{ℤ}
 use contract.Lifetimes.{Lfts}
 use denote.Ref.{Bor}
+use denote.MutBor.{MutBor}
 use denote.Triple.Clauses.{AtExit}
 use Rattle.store.specs.declared.Form.{Form}
 use Rattle.store.specs.declared.Formed.{Formed}
@@ -37,19 +38,19 @@ pub form-of-answer :
 form-of-answer κs bytes r s p q = formed-one r s (p ∙ sym q)
 
 pub read-drawing-answer :
-    (κs : Lfts 2) (bytes : Bor (List ℕ)) (out : Bor (List ℤ)) (r s : Read) (l m : Bor (List ℤ))
+    (κs : Lfts 2) (bytes : Bor (List ℕ)) (out : MutBor (List ℤ)) (r s : Read) (l m : MutBor (List ℤ))
     → read-drawing.Post κs (bytes, (out, tt)) r (bytes, (l, tt)) → read-drawing.Post κs (bytes, (out, tt)) s (bytes, (m, tt))
     → (r ≡ s) × (l.now ≡ m.now)
 read-drawing-answer κs bytes out r s l m p q = (p.0 ∙ sym q.0, p.1 ∙ sym q.1)
 
 pub write-drawing-answer :
-    (κs : Lfts 2) (form : Form) (list : Bor (List ℤ)) (out : Bor (List ℕ)) (r s : Written) (l m : Bor (List ℕ))
+    (κs : Lfts 2) (form : Form) (list : Bor (List ℤ)) (out : MutBor (List ℕ)) (r s : Written) (l m : MutBor (List ℕ))
     → write-drawing.Post κs (form, (list, (out, tt))) r (form, (list, (l, tt))) → write-drawing.Post κs (form, (list, (out, tt))) s (form, (list, (m, tt)))
     → (r ≡ s) × (l.now ≡ m.now)
 write-drawing-answer κs form list out r s l m p q = (p.0 ∙ sym q.0, p.1 ∙ sym q.1)
 
 pub move-drawing-answer :
-    (κs : Lfts 2) (bytes : Bor (List ℕ)) (form : Form) (out : Bor (List ℕ)) (r s : Written) (l m : Bor (List ℕ))
+    (κs : Lfts 2) (bytes : Bor (List ℕ)) (form : Form) (out : MutBor (List ℕ)) (r s : Written) (l m : MutBor (List ℕ))
     → move-drawing.Post κs (bytes, (form, (out, tt))) r (bytes, (form, (l, tt))) → move-drawing.Post κs (bytes, (form, (out, tt))) s (bytes, (form, (m, tt)))
     → (r ≡ s) × (l.now ≡ m.now)
 move-drawing-answer κs bytes form out r s l m p q = (p.0 ∙ sym q.0, p.1 ∙ sym q.1)

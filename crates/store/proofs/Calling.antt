@@ -12,7 +12,7 @@ use Rattle.store.specs.declared.Reader.{Reader}
 use Rattle.store.specs.declared.Taken.{Taken}
 use Rattle.store.specs.Stored.{read_drawing}
 use Rattle.store.specs.Reader.{call_from, item_of}
-use Rattle.store.specs.ReaderLaws.{calls-give}
+use Rattle.store.proofs.ReaderLaws.{calls-give}
 use Rattle.store.specs.contracts.open_reader as open-reader
 use Rattle.store.specs.contracts.next as next
 use Rattle.store.proofs.ReaderPosts.{OpenReaderPost, NextPost}

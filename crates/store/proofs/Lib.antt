@@ -3,3 +3,14 @@ pub mod Answers
 pub mod RoundTrip
 pub mod Moves
 pub mod Calling
+pub mod LongestLaws
+pub mod MeetsLaws
+pub mod MoveLaws
+pub mod ObjectTrip
+pub mod ObjectsLaws
+pub mod ReaderLaws
+pub mod RoomyLaws
+pub mod SoundLaws
+pub mod StoredLaws
+pub mod SureLaws
+pub mod TagsLaws

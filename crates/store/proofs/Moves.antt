@@ -18,6 +18,7 @@ use lib.IntN.{ℤ, pos}
 use lib.ListN.{length, take}
 use contract.Lifetimes.{Lfts}
 use denote.Ref.{Bor}
+use denote.MutBor.{MutBor}
 use Rattle.sheet.specs.Lent.{room_refusal}
 use Rattle.number.specs.Number.{Bytes}
 use Rattle.store.specs.declared.Form.{Form}
@@ -29,7 +30,7 @@ use Rattle.store.specs.declared.Written.{Written}
 use Rattle.store.specs.Stored.{Drawing, Untagged, refused, read_drawing, old_reader, form_of, move_refusal, moved}
 use Rattle.store.specs.Answers.{read_answer, read_into, move_answer, move_into}
 use Rattle.store.specs.AnswersLaws.{has-form, tells-form}
-use Rattle.store.specs.MoveLaws.{move_new, move-old, move-refused, moved-accepted, own-taken, own-kept, moved-form, moved-objects, back-taken, back-same, old-refuses, old-accepts, old-reads}
+use Rattle.store.proofs.MoveLaws.{move_new, move-old, move-refused, moved-accepted, own-taken, own-kept, moved-form, moved-objects, back-taken, back-same, old-refuses, old-accepts, old-reads}
 use Rattle.store.proofs.RoundTrip.{Puts, puts, puts-not-16, were-put}
 use Rattle.store.proofs.check_drawing.Reads as check-drawing
 use Rattle.store.proofs.form_of.Reads as FormOf
@@ -37,14 +38,14 @@ use Rattle.store.proofs.read_drawing.Reads as read-drawing
 use Rattle.store.proofs.move_drawing.Reads as move-drawing
 
 -- a call of move_drawing: the bytes, the form that is asked for, the lent bytes before and after, and the answer
-abbrev Moves : Lfts 2 → Bor (List ℕ) → Form → Bor (List ℕ) → Written → Bor (List ℕ) → Type 0
+abbrev Moves : Lfts 2 → Bor (List ℕ) → Form → MutBor (List ℕ) → Written → MutBor (List ℕ) → Type 0
 Moves κs bytes form lent answer after = move-drawing.Post κs (bytes, (form, (lent, tt))) answer (bytes, (form, (after, tt)))
 
 -- move_drawing took the bytes to a form, and `put` is what it put at the front of the lent ones
 pub record WasMoved (bytes : Bor (List ℕ)) (form : Form) (put : List ℕ) : Type 0 where
   pub κs : Lfts 2
-  pub lent : Bor (List ℕ)
-  pub after : Bor (List ℕ)
+  pub lent : MutBor (List ℕ)
+  pub after : MutBor (List ℕ)
   pub answer : Written
   pub met : Moves κs bytes form lent answer after
   pub not_refused : answer.refusal ≡ pos 0
@@ -59,7 +60,7 @@ module _ (κ : Lfts 1) (bytes : Bor (List ℕ)) (accepted : check-drawing.Post �
   fine : (read_drawing bytes.now).refusal ≡ pos 0
   fine = sym accepted
 
-  module _ (κs : Lfts 2) (lent after : Bor (List ℕ)) (answer : Written) where
+  module _ (κs : Lfts 2) (lent after : MutBor (List ℕ)) (answer : Written) where
     pub goes-new : Moves κs bytes New lent answer after → Puts (moved New bytes.now) lent answer after
     unfolding move_answer move_into
     goes-new met = puts (move_new bytes.now fine) refl met.0 met.1
@@ -84,7 +85,7 @@ module _ (κ : Lfts 1) (bytes : Bor (List ℕ)) (own : Form) (told : FormOf.Post
   taken = has-form bytes.now own told
 
   pub keeps-bytes :
-      Bytes bytes.now → (κs : Lfts 2) (lent after : Bor (List ℕ)) (answer : Written) → Moves κs bytes own lent answer after
+      Bytes bytes.now → (κs : Lfts 2) (lent after : MutBor (List ℕ)) (answer : Written) → Moves κs bytes own lent answer after
       → Puts bytes.now lent answer after
   unfolding move_answer move_into
   keeps-bytes b κs lent after answer met =
@@ -93,7 +94,7 @@ module _ (κ : Lfts 1) (bytes : Bor (List ℕ)) (own : Form) (told : FormOf.Post
 
   pub comes_back :
       Bytes bytes.now → (form : Form) (between : Bor (List ℕ)) → WasMoved bytes form between.now
-      → (κs : Lfts 2) (lent after : Bor (List ℕ)) (answer : Written) → Moves κs between own lent answer after → Puts bytes.now lent answer after
+      → (κs : Lfts 2) (lent after : MutBor (List ℕ)) (answer : Written) → Moves κs between own lent answer after → Puts bytes.now lent answer after
   unfolding move_answer move_into
   comes_back b form between c κs lent after answer met =
       let was = was-moved c in
@@ -115,7 +116,7 @@ module _ (bytes between : Bor (List ℕ)) (form : Form) (c : WasMoved bytes form
       tells-form between.now (ap (λ (d : Drawing). d.refusal) same ∙ drawing) (ap form_of was.1 ∙ moved-form bytes.now drawing form was.0) met
 
   pub moved-read :
-      (κs κs' : Lfts 2) (lent after after' : Bor (List ℤ)) (answer answer' : Read) → read-drawing.Post κs (bytes, (lent, tt)) answer (bytes, (after, tt))
+      (κs κs' : Lfts 2) (lent after after' : MutBor (List ℤ)) (answer answer' : Read) → read-drawing.Post κs (bytes, (lent, tt)) answer (bytes, (after, tt))
       → read-drawing.Post κs' (between, (lent, tt)) answer' (between, (after', tt)) → (answer' ≡ answer) × (after'.now ≡ after.now)
   moved-read κs κs' lent after after' answer answer' met met' = (
     met'.0 ∙ ap (λ (d : Drawing). read_answer d lent.now) same ∙ sym met.0,
@@ -140,7 +141,7 @@ old-told κ bytes answer met = (
     refusal d = d.refusal
 
 pub read-as-before :
-    (κs : Lfts 2) (bytes : Bor (List ℕ)) (lent after : Bor (List ℤ)) (answer : Read) → (old_reader bytes.now).refusal ≡ pos 0
+    (κs : Lfts 2) (bytes : Bor (List ℕ)) (lent after : MutBor (List ℤ)) (answer : Read) → (old_reader bytes.now).refusal ≡ pos 0
     → read-drawing.Post κs (bytes, (lent, tt)) answer (bytes, (after, tt))
     → (answer ≡ read_answer (old_reader bytes.now) lent.now) × (after.now ≡ read_into (old_reader bytes.now) lent.now)
 read-as-before κs bytes lent after answer h met =

@@ -20,8 +20,9 @@ use lib.IntN.{ℤ, pos}
 use lib.ListN.{length, take}
 use contract.Lifetimes.{Lfts}
 use denote.Ref.{Bor}
+use denote.MutBor.{MutBor}
 use Rattle.whole.specs.ChoiceLaws.{or-next}
-use Rattle.sheet.specs.Lent.{room_refusal, other_number, length_given, filled}
+use Rattle.sheet.specs.Lent.{room_refusal, other_number, filled}
 use Rattle.sheet.specs.LentLaws.{filled-front}
 use Rattle.sheet.specs.Lists.{count_of, list_refusal}
 use Rattle.number.specs.Number.{Bytes}
@@ -34,9 +35,9 @@ use Rattle.store.specs.declared.Written.{Written}
 use Rattle.store.specs.Stored.{Drawing, read_drawing, form_of, write_drawing, tags_refusal, write_refusal, Untagged}
 use Rattle.store.specs.Answers.{bytes_answer, read_answer, read_into, write_answer, write_into}
 use Rattle.store.specs.AnswersLaws.{has-form, tells-form}
-use Rattle.store.specs.TagsLaws.{Keeps, kept-taken, taken-kept, untagged-kept, kept-untagged, new-keeps, tags-refused}
-use Rattle.store.specs.StoredLaws.{read_taken, written_read, read-written, form-written}
-use Rattle.store.specs.MoveLaws.{one_form}
+use Rattle.store.proofs.TagsLaws.{Keeps, kept-taken, taken-kept, untagged-kept, kept-untagged, new-keeps, tags-refused}
+use Rattle.store.proofs.StoredLaws.{read_taken, written_read, read-written, form-written}
+use Rattle.store.proofs.MoveLaws.{one_form}
 use Rattle.store.proofs.form_of.Reads as FormOf
 use Rattle.store.proofs.read_drawing.Reads as read-drawing
 use Rattle.store.proofs.write_drawing.Reads as write-drawing
@@ -46,8 +47,8 @@ use Rattle.store.proofs.write_drawing.Reads as write-drawing
 -- read_drawing took the bytes, and a list is what it put at the front of the lent one
 pub record WasRead (bytes : Bor (List ℕ)) (list : List ℤ) : Type 0 where
   pub κs : Lfts 2
-  pub lent : Bor (List ℤ)
-  pub after : Bor (List ℤ)
+  pub lent : MutBor (List ℤ)
+  pub after : MutBor (List ℤ)
   pub answer : Read
   pub met : read-drawing.Post κs (bytes, (lent, tt)) answer (bytes, (after, tt))
   pub not_refused : answer.refusal ≡ pos 0
@@ -56,15 +57,15 @@ pub record WasRead (bytes : Bor (List ℕ)) (list : List ℤ) : Type 0 where
 -- write_drawing took the list in a form, and bytes are what it put at the front of the lent ones
 pub record WasWritten (form : Form) (list : Bor (List ℤ)) (bytes : List ℕ) : Type 0 where
   pub κs : Lfts 2
-  pub lent : Bor (List ℕ)
-  pub after : Bor (List ℕ)
+  pub lent : MutBor (List ℕ)
+  pub after : MutBor (List ℕ)
   pub answer : Written
   pub met : write-drawing.Post κs (form, (list, (lent, tt))) answer (form, (list, (after, tt)))
   pub not_refused : answer.refusal ≡ pos 0
   pub front : bytes ≡ take answer.length after.now
 
 -- a call that puts bytes into lent ones is refused for nothing but room
-pub record Puts (bytes : List ℕ) (lent : Bor (List ℕ)) (answer : Written) (after : Bor (List ℕ)) : Type 0 where
+pub record Puts (bytes : List ℕ) (lent : MutBor (List ℕ)) (answer : Written) (after : MutBor (List ℕ)) : Type 0 where
   pub answered : answer ≡ record { refusal = room_refusal (pos 0) (length bytes) (length lent.now); length = length bytes }
   pub left : after.now ≡ filled (pos 0) bytes lent.now
 
@@ -92,13 +93,13 @@ unfolding write_answer write_into
 was-written {form} {list} c = were-put (write_refusal form list.now) (write_drawing form list.now) c.lent.now c.met.0 c.met.1 c.not_refused c.front
 
 pub puts :
-    {n : ℤ} {put bytes : List ℕ} {lent after : Bor (List ℕ)} {answer : Written} → n ≡ pos 0 → put ≡ bytes → answer ≡ bytes_answer n put lent.now
+    {n : ℤ} {put bytes : List ℕ} {lent after : MutBor (List ℕ)} {answer : Written} → n ≡ pos 0 → put ≡ bytes → answer ≡ bytes_answer n put lent.now
     → after.now ≡ filled n put lent.now → Puts bytes lent answer after
 puts {n} {put} {bytes} {lent} z e p q =
     record { answered = p ∙ (λ i. bytes_answer (z i) (e i) lent.now); left = q ∙ (λ i. filled (z i) (e i) lent.now) }
 
 -- 0 or 10 is not 16
-pub puts-not-16 : {bytes : List ℕ} {lent after : Bor (List ℕ)} {answer : Written} → Puts bytes lent answer after → answer.refusal ≡ pos 16 → ⊥
+pub puts-not-16 : {bytes : List ℕ} {lent after : MutBor (List ℕ)} {answer : Written} → Puts bytes lent answer after → answer.refusal ≡ pos 16 → ⊥
 puts-not-16 {bytes} {lent} p e = room (ltb (length lent.now) (length bytes)) (sym (ap (λ (r : Written). r.refusal) p.answered) ∙ e)
   where
     room : (short : Bool) → cond short (pos 10) (pos 0) ≡ pos 16 → ⊥
@@ -110,7 +111,7 @@ puts-not-16 {bytes} {lent} p e = room (ltb (length lent.now) (length bytes)) (sy
 pub bytes-come-back :
     (κ : Lfts 1) (bytes : Bor (List ℕ)) (form : Form) (list : Bor (List ℤ)) → Bytes bytes.now → FormOf.Post κ (bytes, tt) (Has form) (bytes, tt)
     → WasRead bytes list.now
-    → (κs : Lfts 2) (lent after : Bor (List ℕ)) (answer : Written)
+    → (κs : Lfts 2) (lent after : MutBor (List ℕ)) (answer : Written)
     → write-drawing.Post κs (form, (list, (lent, tt))) answer (form, (list, (after, tt))) → Puts bytes.now lent answer after
 unfolding write_answer write_into
 bytes-come-back κ bytes form list b told c κs lent after answer met =
@@ -121,7 +122,7 @@ bytes-come-back κ bytes form list b told c κs lent after answer met =
 
 pub objects-come-back :
     (form : Form) (list : Bor (List ℤ)) (bytes : Bor (List ℕ)) → WasWritten form list bytes.now
-    → (κs : Lfts 2) (lent after : Bor (List ℤ)) (answer : Read) → read-drawing.Post κs (bytes, (lent, tt)) answer (bytes, (after, tt))
+    → (κs : Lfts 2) (lent after : MutBor (List ℤ)) (answer : Read) → read-drawing.Post κs (bytes, (lent, tt)) answer (bytes, (after, tt))
     → let refusal = room_refusal (pos 0) (length list.now) (length lent.now) in
     (answer ≡ record { refusal = refusal; count = other_number refusal (count_of list.now); length = length list.now })
     × (after.now ≡ filled (pos 0) list.now lent.now)
@@ -149,7 +150,7 @@ two-forms list other bytes c d =
 
 -- ---- what can be written
 
-module _ (list : Bor (List ℤ)) (fine : list_refusal list.now ≡ pos 0) (κs : Lfts 2) (lent after : Bor (List ℕ)) (answer : Written) where
+module _ (list : Bor (List ℤ)) (fine : list_refusal list.now ≡ pos 0) (κs : Lfts 2) (lent after : MutBor (List ℕ)) (answer : Written) where
   kept-written :
       (form : Form) → Keeps form list.now → write-drawing.Post κs (form, (list, (lent, tt))) answer (form, (list, (after, tt)))
       → Puts (write_drawing form list.now) lent answer after

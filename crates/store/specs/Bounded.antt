@@ -1,5 +1,5 @@
 -- What the writing functions of the code ask and say. Accepted objects are bounded.
-use Rattle.std.specs.Prelude.{List, [], ◌∷◌, ℕ, ◌≤◌, T, ℤ, pos, nat_abs, ◌-ℤ◌}
+use Rattle.std.specs.Prelude.{List, [], ◌∷◌, ℕ, ◌≤◌, T, pos, nat_abs, ◌-ℤ◌}
 use Rattle.std.specs.Int.Signed.{non_neg}
 use Rattle.sheet.specs.declared.Object.{Object}
 use Rattle.sheet.specs.Limits.{reach_size, last_tag}

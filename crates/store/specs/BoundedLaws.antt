@@ -12,14 +12,14 @@ use Rattle.sheet.specs.declared.Object.{Object}
 use Rattle.sheet.specs.Limits.{reach_size, most, last_tag}
 use Rattle.sheet.specs.Figure.{vec, Side, left, bottom, right, top, side_number}
 use Rattle.sheet.specs.Refusal.{outside, refusal_of, tag_refusal, object_refusal}
-use Rattle.sheet.specs.RefusalLaws.{Proper, Taken, a_segment, a_ray, a_line, a_side, accepted-taken}
+use Rattle.sheet.proofs.RefusalLaws.{Proper, Taken, a_segment, a_ray, a_line, a_side, accepted-taken}
 use Rattle.whole.specs.ChoiceLaws.{or-zero}
 use Rattle.sheet.specs.Flags.{neither, cond-zero}
 use Rattle.whole.specs.Within.{Within}
 use Rattle.whole.specs.Bound.{w-sub}
 use Rattle.whole.specs.Tests.{eq-eq_z, ne-eq_z, eq_z-false}
 use Rattle.number.specs.Number.{number_limit, write_number, write_numbers, zigzag}
-use Rattle.number.specs.WrittenLaws.{number-first, number-alone}
+use Rattle.number.proofs.WrittenLaws.{number-first, number-alone}
 use Rattle.number.specs.ZigzagLaws.{zigzag-small}
 use Rattle.store.specs.declared.Form.{Form}
 use Rattle.store.specs.declared.Form.TheVariants.{Old, New}

@@ -4,7 +4,7 @@
 --   small-as                within the limits, in other words
 --   origin-nought           where p would be 0, q is counted from 0
 -- Assumes nothing.
-use Rattle.std.specs.Prelude.{◌≡◌, refl, false, List, [], ◌∷◌, ℕ, ◌≤◌, ℤ, pos, nat_abs, ◌+ℤ◌, ◌-ℤ◌}
+use Rattle.std.specs.Prelude.{◌≡◌, refl, false, List, [], ◌∷◌, ℕ, ◌≤◌, ℤ, pos, nat_abs, ◌-ℤ◌}
 use Rattle.std.proofs.Common.{sym, ap, subst, arith}
 use Rattle.std.proofs.Math.IntN.{+ℤ_idl}
 use Rattle.whole.specs.Reify.{reify, reading, solve, val_pos}

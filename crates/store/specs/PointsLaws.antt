@@ -4,7 +4,7 @@
 --   points-equal, points-done   both are read, and are equal; and are not
 -- Assumes nothing.
 use Rattle.std.specs.Prelude.{◌≡◌, refl, true, false, List, ℕ, zero, suc, ◌≤◌, ◌<◌, ◌^◌, ℤ, pos, length, drop}
-use Rattle.std.proofs.Common.{sym, ap, subst, ◌∙◌, arith, of_z}
+use Rattle.std.proofs.Common.{sym, ap, subst, ◌∙◌, of_z}
 use Rattle.std.specs.Int.Signed.{mag}
 use Rattle.std.specs.Int.{w64}
 use Rattle.whole.specs.Tests.{out}

@@ -14,7 +14,7 @@ use Rattle.sheet.specs.Figure.{vec, Vec}
 use Rattle.sheet.specs.Refusal.{beyond}
 use Rattle.sheet.specs.Flags.{flags}
 use Rattle.number.specs.Number.{write_number, zigzag, Reading, got, next, checked, unzigzag, Bytes}
-use Rattle.number.specs.TripLaws.{behind-bytes, From, from, not, from-checked, number-back, number-from}
+use Rattle.number.proofs.TripLaws.{behind-bytes, From, from, not, from-checked, number-back, number-from}
 use Rattle.number.specs.ZigzagLaws.{unzigzag-zigzag, zigzag-unzigzag, zigzag-small}
 use Rattle.store.specs.declared.Form.{Form}
 use Rattle.store.specs.Forms.{nought, origin_of}

@@ -7,7 +7,7 @@ use Rattle.sheet.specs.Refusal.{side_refusal, pair_refusal, object_refusal}
 use Rattle.sheet.specs.Lists.{list_refusal}
 use Rattle.sheet.specs.Tags.{tagged}
 use Rattle.sheet.specs.Cases.{minus, segment, ray, line, side}
-use Rattle.number.specs.Number.{got, no, groups_of, bytes_of, value_of, needless, read_groups}
+use Rattle.number.specs.Number.{got, groups_of, bytes_of, value_of, needless, read_groups}
 use Rattle.store.specs.declared.Form.TheVariants.{Old, New}
 use Rattle.store.specs.declared.Formed.TheVariants.{Has, Refused}
 use Rattle.store.specs.Forms.{write_mark, write_tag, read_tag, longest_of, longest}

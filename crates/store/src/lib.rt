@@ -1,5 +1,7 @@
 // Stored drawings: a list of objects as bytes in either of two forms, back, and from form to form. The definitions are in specs/Forms.antt and
 // specs/Stored.antt.
+#![tactic(auto)]
+
 ghost use Rattle.std.specs.Prelude.{◌≡◌, min};
 ghost use Rattle.store.specs.Forms.{origin, longest_of};
 ghost use Rattle.store.specs.Stored.{read_drawing};
@@ -15,7 +17,7 @@ mod reading; // reading.rt: points, objects and openings that bytes begin with
 mod writing; // writing.rt: the bytes of points and objects
 
 // The forms of a stored drawing: document 01's, and the shorter one of document 02, with tags, and with q by its differences from p.
-#[derive(Drop)]
+#[derive(Clone, Copy)]
 pub enum Form {
     Old,
     New,
@@ -54,7 +56,7 @@ fn longest_of(form: Form) -> usize
 }
 
 // What reading a drawing into a lent list answers.
-#[derive(Drop)]
+#[derive(Clone, Copy)]
 pub struct Read {
     pub refusal: i64,
     pub count: usize,
@@ -62,7 +64,7 @@ pub struct Read {
 }
 
 // What writing a drawing into lent bytes answers.
-#[derive(Drop)]
+#[derive(Clone, Copy)]
 pub struct Written {
     pub refusal: i64,
     pub length: usize,
@@ -84,7 +86,7 @@ pub fn check_drawing(bytes: &[u8]) -> i64
 }
 
 // What is told of a drawing's form: the form, or the number of the refusal.
-#[derive(Drop)]
+#[derive(Clone, Copy)]
 pub enum Formed {
     Has(Form),
     Refused(i64),
@@ -188,7 +190,7 @@ pub fn move_drawing(bytes: &[u8], form: Form, out: &mut [u8]) -> Written
 }
 
 // What a call of the reader gives: an object, the end, or the number of the refusal.
-#[derive(Drop)]
+#[derive(Clone, Copy)]
 pub enum Item {
     One(Object),
     End,
@@ -196,7 +198,7 @@ pub enum Item {
 }
 
 // Where a reader is: whether the form and the count are read, the form, how many objects are left, and where the next one begins.
-#[derive(Drop)]
+#[derive(Clone, Copy)]
 pub struct Bookmark {
     pub begun: bool,
     pub form: Form,
@@ -205,21 +207,21 @@ pub struct Bookmark {
 }
 
 // An item, and the place after it.
-#[derive(Drop)]
+#[derive(Clone, Copy)]
 pub struct Stepped {
     pub item: Item,
     pub place: Bookmark,
 }
 
 // A reader holds the lent bytes and its place.
-#[derive(Drop)]
+#[derive(Clone, Copy)]
 pub struct Reader<'a> {
     pub bytes: &'a [u8],
     pub place: Bookmark,
 }
 
 // An item, and the reader after it.
-#[derive(Drop)]
+#[derive(Clone, Copy)]
 pub struct Taken<'a> {
     pub reader: Reader<'a>,
     pub item: Item,

@@ -20,14 +20,14 @@ use sheet::refusal::{BYTES_AFTER, NO_KIND, NO_SIDE, NO_TAG, SAME_POINTS, TOO_FAR
 use sheet::{Object, are_equal, is_beyond};
 
 // A coordinate or a tag, and the place behind it, or the number of the refusal.
-#[derive(Drop)]
+#[derive(Clone, Copy)]
 pub(crate) struct Value {
     pub refusal: i64,
     pub value: i64,
     pub next: usize,
 }
 
-#[derive(Drop)]
+#[derive(Clone, Copy)]
 pub(crate) struct Spot {
     pub refusal: i64,
     pub x: i64,
@@ -36,7 +36,7 @@ pub(crate) struct Spot {
 }
 
 // An object and the place behind it, or the number of the refusal.
-#[derive(Drop)]
+#[derive(Clone, Copy)]
 pub(crate) struct Part {
     pub refusal: i64,
     pub object: Object,
@@ -266,7 +266,7 @@ pub(crate) fn read_object(form: Form, bytes: &[u8]) -> Part
 }
 
 // The form of the bytes, and how many of them say so, or the number of the refusal.
-#[derive(Drop)]
+#[derive(Clone, Copy)]
 pub(crate) struct Marked {
     pub refusal: i64,
     pub form: Form,
@@ -330,7 +330,7 @@ pub(crate) fn read_count(bytes: &[u8]) -> Number
 }
 
 // What stands before the objects, the form and the count, and how many bytes it takes, or the number of the refusal.
-#[derive(Drop)]
+#[derive(Clone, Copy)]
 pub(crate) struct Opening {
     pub refusal: i64,
     pub form: Form,

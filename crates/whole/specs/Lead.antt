@@ -78,7 +78,7 @@ lead-step b c R s = go (ℤ_discrete b (pos 0))
 
 -- ---- the law
 
-pub lead : {p : Poly} (R : ℤ) → Below R p → sgn (value p R) ≡ leading p
+pub lead : (R : ℤ) {p : Poly} → Below R p → sgn (value p R) ≡ leading p
 lead R none = sgn-zero
 lead R (highest {a}) =
     ap sgn (ap (λ (x : ℤ). x +ℤ a) (zero-*ℤ R) ∙ +ℤ_idl a)

@@ -1,4 +1,6 @@
 // Whole numbers: their sign, their size, their greatest common divisor, and the first that is not 0. Nothing here knows of sheets.
+#![tactic(auto)]
+
 ghost use Rattle.std.specs.Prelude.{◌≡◌, ◌⊎◌, ◌≤◌, nat_abs};
 ghost use Rattle.whole.specs.Sign.{sgn};
 ghost use Rattle.whole.specs.Divisor.{IsGcd};

@@ -1,0 +1,5 @@
+-- The measure is the number: a hundredth of it is less.
+use Rattle.decimal.proofs.+put_digits.Given as goal
+
+abbrev pub decreases-put_digits : goal.decreases-put_digits
+decreases-put_digits l = l.n

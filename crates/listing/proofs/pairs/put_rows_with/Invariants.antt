@@ -1,0 +1,14 @@
+-- `put_rows_with` meets its contract: before j are the rows with the later ones before j.
+use Prim.Native.Nat.{◌-◌, ◌≤◌, ◌<◌, ◌+◌}
+use Rattle.whole.specs.InTurn.{all_between}
+use Rattle.sheet.specs.Lent.{Wrote}
+use Rattle.sheet.specs.Lists.{count_of}
+use Rattle.listing.specs.Rows.{row_of}
+use Rattle.listing.proofs.pairs.put_rows_with.Given as goal
+
+abbrev pub invariant-loop-j : goal.invariant-loop-j
+invariant-loop-j l =
+    (l.i < l.j) × (l.j ≤ count_of l.list) × Wrote l.initial.out l.out l.at l.next (all_between (λ k. row_of l.joints l.list l.i k) (l.i + 1) l.j)
+
+abbrev pub decreases-loop-j : goal.decreases-loop-j
+decreases-loop-j l = count_of l.list - l.j
