@@ -5,7 +5,7 @@
 use Rattle.std.specs.Prelude.{◌≡◌, Bool, cond, ◌||◌, List, ℕ, ℤ, pos, ◌-ℤ◌}
 use Rattle.std.specs.Int.Signed.{lt_z}
 use contract.Lifetimes.{Lfts}
-use Rattle.std.specs.Borrow.{Bor}
+use Rattle.std.specs.Borrow.{Bor, MutBor}
 use denote.Triple.Clauses.{AtExit}
 use Rattle.whole.specs.Flag.{eq_z}
 use Rattle.sheet.specs.declared.Object.{Object}
@@ -133,31 +133,31 @@ pub record Calls (P : ℤ → Type 0) : Type 0 where
   pub of_read_number : (κs : Lfts 1) (bytes : Bor (List ℕ)) (r : Number) → read_number.Post κs (bytes, tt) r (bytes, tt) → P r.refusal
   -- store: drawings checked, read, told by their form, written and moved, and read one object a call
   pub of_check_drawing : (κs : Lfts 1) (bytes : Bor (List ℕ)) (r : ℤ) → check-drawing.Post κs (bytes, tt) r (bytes, tt) → P r
-  pub of_read_drawing : (κs : Lfts 2) (bytes : Bor (List ℕ)) (out after : Bor (List ℤ)) (r : Read)
+  pub of_read_drawing : (κs : Lfts 2) (bytes : Bor (List ℕ)) (out after : MutBor (List ℤ)) (r : Read)
       → read-drawing.Post κs (bytes, (out, tt)) r (bytes, (after, tt)) → P r.refusal
   pub of_form_of : (κs : Lfts 1) (bytes : Bor (List ℕ)) (r : Formed) → form_of.Post κs (bytes, tt) r (bytes, tt) → P (refusal_in (formed_says r))
-  pub of_write_drawing : (κs : Lfts 2) (form : Form) (list : Bor (List ℤ)) (out after : Bor (List ℕ)) (r : Written)
+  pub of_write_drawing : (κs : Lfts 2) (form : Form) (list : Bor (List ℤ)) (out after : MutBor (List ℕ)) (r : Written)
       → write-drawing.Post κs (form, (list, (out, tt))) r (form, (list, (after, tt))) → P r.refusal
-  pub of_move_drawing : (κs : Lfts 2) (bytes : Bor (List ℕ)) (form : Form) (out after : Bor (List ℕ)) (r : Written)
+  pub of_move_drawing : (κs : Lfts 2) (bytes : Bor (List ℕ)) (form : Form) (out after : MutBor (List ℕ)) (r : Written)
       → move-drawing.Post κs (bytes, (form, (out, tt))) r (bytes, (form, (after, tt))) → P r.refusal
   pub of_step : (κs : Lfts 1) (bytes : Bor (List ℕ)) (place : Bookmark) (r : Stepped)
       → step.Post κs (bytes, (place, tt)) r (bytes, (place, tt)) → P (refusal_in (item_says r.item))
   pub of_next : (κs : Lfts 1) (reader : Reader) (r : Taken) (e : AtExit next.ended κs) → NextPost κs reader r e → P (refusal_in (item_says r.item))
   -- listing: rows of one object, and of all pairs
-  pub of_list_one : (κs : Lfts 2) (list : Bor (List ℤ)) (i : ℕ) (joints : Bool) (out after : Bor (List ℤ)) (r : Listed)
+  pub of_list_one : (κs : Lfts 2) (list : Bor (List ℤ)) (i : ℕ) (joints : Bool) (out after : MutBor (List ℤ)) (r : Listed)
       → list-one.Post κs (list, (i, (joints, (out, tt)))) r (list, (i, (joints, (after, tt)))) → P r.refusal
-  pub of_list_all : (κs : Lfts 2) (list : Bor (List ℤ)) (joints : Bool) (out after : Bor (List ℤ)) (r : Listed)
+  pub of_list_all : (κs : Lfts 2) (list : Bor (List ℤ)) (joints : Bool) (out after : MutBor (List ℤ)) (r : Listed)
       → list_all.Post κs (list, (joints, (out, tt))) r (list, (joints, (after, tt))) → P r.refusal
-  pub of_list_near : (κs : Lfts 2) (list : Bor (List ℤ)) (joints : Bool) (out after : Bor (List ℤ)) (r : Listed)
+  pub of_list_near : (κs : Lfts 2) (list : Bor (List ℤ)) (joints : Bool) (out after : MutBor (List ℤ)) (r : Listed)
       → list-near.Post κs (list, (joints, (out, tt))) r (list, (joints, (after, tt))) → P r.refusal
   -- rowtext: the lines of a listing
-  pub of_put_rows : (κs : Lfts 2) (rows : Bor (List ℤ)) (out after : Bor (List ℕ)) (r : Put)
+  pub of_put_rows : (κs : Lfts 2) (rows : Bor (List ℤ)) (out after : MutBor (List ℕ)) (r : Put)
       → put-rows.Post κs (rows, (out, tt)) r (rows, (after, tt)) → P r.refusal
-  pub of_put_objects : (κs : Lfts 1) (n : ℕ) (out after : Bor (List ℕ)) (r : Put)
+  pub of_put_objects : (κs : Lfts 1) (n : ℕ) (out after : MutBor (List ℕ)) (r : Put)
       → put-objects.Post κs (n, (out, tt)) r (n, (after, tt)) → P r.refusal
-  pub of_put_count : (κs : Lfts 1) (n : ℕ) (out after : Bor (List ℕ)) (r : Put)
+  pub of_put_count : (κs : Lfts 1) (n : ℕ) (out after : MutBor (List ℕ)) (r : Put)
       → put_count.Post κs (n, (out, tt)) r (n, (after, tt)) → P r.refusal
-  pub of_put_refused : (κs : Lfts 1) (n : ℤ) (out after : Bor (List ℕ)) (r : Put)
+  pub of_put_refused : (κs : Lfts 1) (n : ℤ) (out after : MutBor (List ℕ)) (r : Put)
       → Put-refused.Post κs (n, (out, tt)) r (n, (after, tt)) → P r.refusal
   -- screen: places and boxes
   pub of_place_of : (κs : Lfts 0) (p : Point) (r : OnScreen) → place_of.Post κs (p, tt) r (p, tt) → P (refusal_in (place_says r).wholes)
@@ -167,18 +167,18 @@ pub record Calls (P : ℤ → Type 0) : Type 0 where
   pub of_viewer_side : (κs : Lfts 1) (bytes : Bor (List ℕ)) (i x y r : ℤ)
       → viewer-side.Post κs (bytes, (i, (x, (y, tt)))) r (bytes, (i, (x, (y, tt)))) → P (side_refusal_in r)
   -- trial: the calls for bench/ and tests/
-  pub of_trial_list : (κs : Lfts 2) (list : Bor (List ℤ)) (joints : Bool) (out after : Bor (List ℤ)) (r : RowCounts)
+  pub of_trial_list : (κs : Lfts 2) (list : Bor (List ℤ)) (joints : Bool) (out after : MutBor (List ℤ)) (r : RowCounts)
       → trial-list.Post κs (list, (joints, (out, tt))) r (list, (joints, (after, tt))) → P r.refusal
-  pub of_trial_near : (κs : Lfts 2) (list : Bor (List ℤ)) (joints : Bool) (out after : Bor (List ℤ)) (r : RowCounts)
+  pub of_trial_near : (κs : Lfts 2) (list : Bor (List ℤ)) (joints : Bool) (out after : MutBor (List ℤ)) (r : RowCounts)
       → trial-near.Post κs (list, (joints, (out, tt))) r (list, (joints, (after, tt))) → P r.refusal
-  pub of_trial_one : (κs : Lfts 2) (list : Bor (List ℤ)) (i : ℕ) (joints : Bool) (out after : Bor (List ℤ)) (r : RowCounts)
+  pub of_trial_one : (κs : Lfts 2) (list : Bor (List ℤ)) (i : ℕ) (joints : Bool) (out after : MutBor (List ℤ)) (r : RowCounts)
       → trial-one.Post κs (list, (i, (joints, (out, tt)))) r (list, (i, (joints, (after, tt)))) → P r.refusal
-  pub of_trial_read : (κs : Lfts 2) (bytes : Bor (List ℕ)) (out after : Bor (List ℤ)) (r : ℤ)
+  pub of_trial_read : (κs : Lfts 2) (bytes : Bor (List ℕ)) (out after : MutBor (List ℤ)) (r : ℤ)
       → trial-read.Post κs (bytes, (out, tt)) r (bytes, (after, tt)) → P r
-  pub of_trial_write : (κs : Lfts 2) (form : ℤ) (list : Bor (List ℤ)) (out after : Bor (List ℕ)) (r : ℤ)
+  pub of_trial_write : (κs : Lfts 2) (form : ℤ) (list : Bor (List ℤ)) (out after : MutBor (List ℕ)) (r : ℤ)
       → trial-write.Post κs (form, (list, (out, tt))) r (form, (list, (after, tt))) → P r
   pub of_trial_form : (κs : Lfts 1) (bytes : Bor (List ℕ)) (r : ℤ) → trial-form.Post κs (bytes, tt) r (bytes, tt) → P (form_refusal_in r)
-  pub of_trial_move : (κs : Lfts 2) (bytes : Bor (List ℕ)) (form : ℤ) (out after : Bor (List ℕ)) (r : TwoNumbers)
+  pub of_trial_move : (κs : Lfts 2) (bytes : Bor (List ℕ)) (form : ℤ) (out after : MutBor (List ℕ)) (r : TwoNumbers)
       → trial-move.Post κs (bytes, (form, (out, tt))) r (bytes, (form, (after, tt))) → P r.refusal
   pub of_trial_number : (κs : Lfts 1) (bytes : Bor (List ℕ)) (r : ThreeNumbers) → trial-number.Post κs (bytes, tt) r (bytes, tt) → P r.refusal
   pub of_trial_place : (κs : Lfts 0) (a : Five) (r : SixNumbers) → trial-place.Post κs a r a → P r.refusal

@@ -2,5 +2,3 @@
 pub mod Calls
 -- worked on them
 pub mod Worked
--- laws
-pub mod Refusals

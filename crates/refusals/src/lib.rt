@@ -1,1 +1,2 @@
 // Which numbers the public calls refuse by, shown of their contracts. Specs only.
+#![tactic(auto)]

@@ -1,5 +1,7 @@
 // Calls for a C program that checks the kernel by what its answers mean (tests/spot_check.c): ends, order, side and crossing. And the
 // side of circle, for tests/circle.c and bench/.
+#![tactic(auto)]
+
 mod numbers;
 
 ghost use Rattle.std.specs.Prelude.{◌≡◌};
@@ -9,7 +11,7 @@ use sheet::{Object, Point};
 
 // The two ends of an object: the refusal or 0, and the ends in its direction.
 #[repr(C)]
-#[derive(Drop)]
+#[derive(Clone, Copy)]
 pub struct TwoEnds {
     pub refusal: i64,
     pub first: Point,
@@ -18,43 +20,38 @@ pub struct TwoEnds {
 
 // A sign or a crossing: the refusal or 0; the sign, or 0, 1 or 2 for none, point or many; and the point of a crossing.
 #[repr(C)]
-#[derive(Drop)]
+#[derive(Clone, Copy)]
 pub struct Answer {
     pub refusal: i64,
     pub number: i64,
     pub at: Point,
 }
 
-#[unsafe(no_mangle)]
-pub extern "C" fn silvanelga_spot_ends(o: Object) -> TwoEnds
+pub fn silvanelga_spot_ends(o: Object) -> TwoEnds
     ensures { result ≡ ends_answer o }
 {
     numbers::of_ends(kernel::ends::ends_of(o))
 }
 
-#[unsafe(no_mangle)]
-pub extern "C" fn silvanelga_spot_order(p: Point, q: Point) -> Answer
+pub fn silvanelga_spot_order(p: Point, q: Point) -> Answer
     ensures { result ≡ order_answer p q }
 {
     numbers::of_sign(kernel::signs::order_points(p, q))
 }
 
-#[unsafe(no_mangle)]
-pub extern "C" fn silvanelga_spot_side(o: Object, s: Point) -> Answer
+pub fn silvanelga_spot_side(o: Object, s: Point) -> Answer
     ensures { result ≡ side_answer o s }
 {
     numbers::of_sign(kernel::signs::side_of(o, s))
 }
 
-#[unsafe(no_mangle)]
-pub extern "C" fn silvanelga_spot_cross(a: Object, b: Object) -> Answer
+pub fn silvanelga_spot_cross(a: Object, b: Object) -> Answer
     ensures { result ≡ crossing_answer a b }
 {
     numbers::of_crossing(kernel::crossing::cross(a, b))
 }
 
-#[unsafe(no_mangle)]
-pub extern "C" fn silvanelga_spot_circle(p: Point, q: Point, s: Point, u: Point) -> Answer
+pub fn silvanelga_spot_circle(p: Point, q: Point, s: Point, u: Point) -> Answer
     ensures { result ≡ circle_answer p q s u }
 {
     numbers::of_sign(kernel::circle::side_of_circle(p, q, s, u))

@@ -7,6 +7,7 @@ use Prim.Native.Nat.{ℕ}
 use lib.IntN.{ℤ}
 use contract.Lifetimes.{Lfts}
 use denote.Ref.{Bor}
+use denote.MutBor.{MutBor}
 use Rattle.trial.specs.declared.RowCounts.{RowCounts}
 use Rattle.trial.specs.declared.TwoNumbers.{TwoNumbers}
 use Rattle.trial.specs.declared.ThreeNumbers.{ThreeNumbers}
@@ -24,32 +25,32 @@ use Rattle.trial.proofs.silvanelga_trial_place.Reads as trial-place
 use Rattle.trial.proofs.silvanelga_trial_box.Reads as trial-box
 
 pub trial-list-answer :
-    (κs : Lfts 2) (list : Bor (List ℤ)) (joints : Bool) (rows : Bor (List ℤ)) (r s : RowCounts) (l m : Bor (List ℤ))
+    (κs : Lfts 2) (list : Bor (List ℤ)) (joints : Bool) (rows : MutBor (List ℤ)) (r s : RowCounts) (l m : MutBor (List ℤ))
     → trial-list.Post κs (list, (joints, (rows, tt))) r (list, (joints, (l, tt))) → trial-list.Post κs (list, (joints, (rows, tt))) s (list, (joints, (m, tt)))
     → (r ≡ s) × (l.now ≡ m.now)
 trial-list-answer κs list joints rows r s l m p q = (p.0 ∙ sym q.0, p.1 ∙ sym q.1)
 
 pub trial-near-answer :
-    (κs : Lfts 2) (list : Bor (List ℤ)) (joints : Bool) (rows : Bor (List ℤ)) (r s : RowCounts) (l m : Bor (List ℤ))
+    (κs : Lfts 2) (list : Bor (List ℤ)) (joints : Bool) (rows : MutBor (List ℤ)) (r s : RowCounts) (l m : MutBor (List ℤ))
     → trial-near.Post κs (list, (joints, (rows, tt))) r (list, (joints, (l, tt))) → trial-near.Post κs (list, (joints, (rows, tt))) s (list, (joints, (m, tt)))
     → (r ≡ s) × (l.now ≡ m.now)
 trial-near-answer κs list joints rows r s l m p q = (p.0 ∙ sym q.0, p.1 ∙ sym q.1)
 
 pub trial-one-answer :
-    (κs : Lfts 2) (list : Bor (List ℤ)) (i : ℕ) (joints : Bool) (rows : Bor (List ℤ)) (r s : RowCounts) (l m : Bor (List ℤ))
+    (κs : Lfts 2) (list : Bor (List ℤ)) (i : ℕ) (joints : Bool) (rows : MutBor (List ℤ)) (r s : RowCounts) (l m : MutBor (List ℤ))
     → trial-one.Post κs (list, (i, (joints, (rows, tt)))) r (list, (i, (joints, (l, tt))))
     → trial-one.Post κs (list, (i, (joints, (rows, tt)))) s (list, (i, (joints, (m, tt))))
     → (r ≡ s) × (l.now ≡ m.now)
 trial-one-answer κs list i joints rows r s l m p q = (p.0 ∙ sym q.0, p.1 ∙ sym q.1)
 
 pub trial-read-answer :
-    (κs : Lfts 2) (bytes : Bor (List ℕ)) (list : Bor (List ℤ)) (r s : ℤ) (l m : Bor (List ℤ))
+    (κs : Lfts 2) (bytes : Bor (List ℕ)) (list : MutBor (List ℤ)) (r s : ℤ) (l m : MutBor (List ℤ))
     → trial-read.Post κs (bytes, (list, tt)) r (bytes, (l, tt)) → trial-read.Post κs (bytes, (list, tt)) s (bytes, (m, tt))
     → (r ≡ s) × (l.now ≡ m.now)
 trial-read-answer κs bytes list r s l m p q = (p.0 ∙ sym q.0, p.1 ∙ sym q.1)
 
 pub trial-write-answer :
-    (κs : Lfts 2) (form : ℤ) (list : Bor (List ℤ)) (bytes : Bor (List ℕ)) (r s : ℤ) (l m : Bor (List ℕ))
+    (κs : Lfts 2) (form : ℤ) (list : Bor (List ℤ)) (bytes : MutBor (List ℕ)) (r s : ℤ) (l m : MutBor (List ℕ))
     → trial-write.Post κs (form, (list, (bytes, tt))) r (form, (list, (l, tt))) → trial-write.Post κs (form, (list, (bytes, tt))) s (form, (list, (m, tt)))
     → (r ≡ s) × (l.now ≡ m.now)
 trial-write-answer κs form list bytes r s l m p q = (p.0 ∙ sym q.0, p.1 ∙ sym q.1)
@@ -59,7 +60,7 @@ pub trial-form-answer :
 trial-form-answer κs bytes r s p q = p ∙ sym q
 
 pub trial-move-answer :
-    (κs : Lfts 2) (bytes : Bor (List ℕ)) (form : ℤ) (out : Bor (List ℕ)) (r s : TwoNumbers) (l m : Bor (List ℕ))
+    (κs : Lfts 2) (bytes : Bor (List ℕ)) (form : ℤ) (out : MutBor (List ℕ)) (r s : TwoNumbers) (l m : MutBor (List ℕ))
     → trial-move.Post κs (bytes, (form, (out, tt))) r (bytes, (form, (l, tt))) → trial-move.Post κs (bytes, (form, (out, tt))) s (bytes, (form, (m, tt)))
     → (r ≡ s) × (l.now ≡ m.now)
 trial-move-answer κs bytes form out r s l m p q = (p.0 ∙ sym q.0, p.1 ∙ sym q.1)
@@ -70,7 +71,7 @@ pub trial-number-answer :
 trial-number-answer κs bytes r s p q = p ∙ sym q
 
 pub trial-put-answer :
-    (κs : Lfts 2) (numbers out d e : Bor (List ℕ)) (at r s : ℕ)
+    (κs : Lfts 2) (numbers : Bor (List ℕ)) (out d e : MutBor (List ℕ)) (at r s : ℕ)
     → trial-put.Post κs (numbers, (out, (at, tt))) r (numbers, (d, (at, tt))) → trial-put.Post κs (numbers, (out, (at, tt))) s (numbers, (e, (at, tt)))
     → (r ≡ s) × (d.now ≡ e.now)
 trial-put-answer κs numbers out d e at r s p q = (p.place ∙ sym q.place, p.cells ∙ sym q.cells)

@@ -1,4 +1,6 @@
 // Calls for bench/ and tests/, so that a C program can time the listing and the stored drawings, and compare stored numbers, places and boxes.
+#![tactic(auto)]
+
 mod numbers;
 
 ghost use Rattle.std.specs.Prelude.{◌≡◌, length};
@@ -17,7 +19,7 @@ use store::Formed;
 
 // A place or a box: the refusal or 0, the side number or the flag, and the floats, from the front.
 #[repr(C)]
-#[derive(Drop)]
+#[derive(Clone, Copy)]
 pub struct SixNumbers {
     pub refusal: i64,
     pub number: i64,
@@ -29,7 +31,7 @@ pub struct SixNumbers {
 
 // What a listing answers: the refusal or 0, how many rows, and how many numbers they are, or the length needed.
 #[repr(C)]
-#[derive(Drop)]
+#[derive(Clone, Copy)]
 pub struct RowCounts {
     pub refusal: i64,
     pub rows: usize,
@@ -38,7 +40,7 @@ pub struct RowCounts {
 
 // What moving answers: the refusal or 0, and the length of what was put, or the length needed.
 #[repr(C)]
-#[derive(Drop)]
+#[derive(Clone, Copy)]
 pub struct TwoNumbers {
     pub refusal: i64,
     pub length: usize,
@@ -46,7 +48,7 @@ pub struct TwoNumbers {
 
 // A stored number: the refusal or 0, the number, and how many bytes it takes.
 #[repr(C)]
-#[derive(Drop)]
+#[derive(Clone, Copy)]
 pub struct ThreeNumbers {
     pub refusal: i64,
     pub value: u64,
@@ -56,37 +58,28 @@ pub struct ThreeNumbers {
 // What a refusal is added to, so that it is the number of no form.
 const REFUSED: i64 = 100;
 
-#[unsafe(no_mangle)]
-pub extern "C" fn silvanelga_trial_list(list: &[i64], joints: bool, rows: &mut [i64]) -> RowCounts
+pub fn silvanelga_trial_list(list: &[i64], joints: bool, rows: &mut [i64]) -> RowCounts
     ensures value { result ≡ counts_of (listed (list_refusal list.now) (sharing joints list.now) (length rows.old)) }
     ensures rows_after { rows.new ≡ filled (list_refusal list.now) (rows_of joints list.now) rows.old }
 {
     numbers::of_listed(listing::list_all(list, joints, rows))
 }
 
-#[unsafe(no_mangle)]
-pub extern "C" fn silvanelga_trial_near(list: &[i64], joints: bool, rows: &mut [i64]) -> RowCounts
+pub fn silvanelga_trial_near(list: &[i64], joints: bool, rows: &mut [i64]) -> RowCounts
     ensures value { result ≡ counts_of (listed (list_refusal list.now) (sharing joints list.now) (length rows.old)) }
     ensures rows_after { rows.new ≡ filled (list_refusal list.now) (rows_of joints list.now) rows.old }
 {
     numbers::of_listed(listing::list_near(list, joints, rows))
 }
 
-#[unsafe(no_mangle)]
-pub extern "C" fn silvanelga_trial_one(
-    list: &[i64],
-    i: usize,
-    joints: bool,
-    rows: &mut [i64],
-) -> RowCounts
+pub fn silvanelga_trial_one(list: &[i64], i: usize, joints: bool, rows: &mut [i64]) -> RowCounts
     ensures value { result ≡ counts_of (listed (one_refusal list.now i) (sharing_with joints list.now i) (length rows.old)) }
     ensures rows_after { rows.new ≡ filled (one_refusal list.now i) (rows_with joints list.now i) rows.old }
 {
     numbers::of_listed(listing::list_one(list, i, joints, rows))
 }
 
-#[unsafe(no_mangle)]
-pub extern "C" fn silvanelga_trial_read(bytes: &[u8], list: &mut [i64]) -> i64
+pub fn silvanelga_trial_read(bytes: &[u8], list: &mut [i64]) -> i64
     ensures value { result ≡ (read_answer (read_drawing bytes.now) list.old).refusal }
     ensures list_after { list.new ≡ read_into (read_drawing bytes.now) list.old }
 {
@@ -94,8 +87,7 @@ pub extern "C" fn silvanelga_trial_read(bytes: &[u8], list: &mut [i64]) -> i64
     read_refusal
 }
 
-#[unsafe(no_mangle)]
-pub extern "C" fn silvanelga_trial_write(form: i64, list: &[i64], bytes: &mut [u8]) -> i64
+pub fn silvanelga_trial_write(form: i64, list: &[i64], bytes: &mut [u8]) -> i64
     ensures value { result ≡ (write_answer (form_from form) list.now bytes.old).refusal }
     ensures bytes_after { bytes.new ≡ write_into (form_from form) list.now bytes.old }
 {
@@ -103,8 +95,7 @@ pub extern "C" fn silvanelga_trial_write(form: i64, list: &[i64], bytes: &mut [u
     write_refusal
 }
 
-#[unsafe(no_mangle)]
-pub extern "C" fn silvanelga_trial_form(bytes: &[u8]) -> i64
+pub fn silvanelga_trial_form(bytes: &[u8]) -> i64
     ensures { result ≡ form_told bytes.now }
 {
     let formed = store::form_of(bytes);
@@ -114,8 +105,7 @@ pub extern "C" fn silvanelga_trial_form(bytes: &[u8]) -> i64
     }
 }
 
-#[unsafe(no_mangle)]
-pub extern "C" fn silvanelga_trial_move(bytes: &[u8], form: i64, out: &mut [u8]) -> TwoNumbers
+pub fn silvanelga_trial_move(bytes: &[u8], form: i64, out: &mut [u8]) -> TwoNumbers
     ensures value { result ≡ two_of (move_answer (form_from form) bytes.now out.old) }
     ensures out_after { out.new ≡ move_into (form_from form) bytes.now out.old }
 {
@@ -125,8 +115,7 @@ pub extern "C" fn silvanelga_trial_move(bytes: &[u8], form: i64, out: &mut [u8])
     TwoNumbers { refusal, length }
 }
 
-#[unsafe(no_mangle)]
-pub extern "C" fn silvanelga_trial_number(bytes: &[u8]) -> ThreeNumbers
+pub fn silvanelga_trial_number(bytes: &[u8]) -> ThreeNumbers
     ensures { result ≡ three_of (number_of bytes.now (read_number bytes.now)) }
 {
     let read = number::read_number(bytes);
@@ -140,22 +129,19 @@ pub extern "C" fn silvanelga_trial_number(bytes: &[u8]) -> ThreeNumbers
     }
 }
 
-#[unsafe(no_mangle)]
-pub extern "C" fn silvanelga_trial_put(numbers: &[u64], bytes: &mut [u8], at: usize) -> usize
+pub fn silvanelga_trial_put(numbers: &[u64], bytes: &mut [u8], at: usize) -> usize
     ensures { Wrote bytes.old bytes.new at result (write_numbers numbers.now) }
 {
     number::put_stored(numbers, bytes, at)
 }
 
-#[unsafe(no_mangle)]
-pub extern "C" fn silvanelga_trial_place(mx: i64, nx: i64, my: i64, ny: i64, w: i64) -> SixNumbers
+pub fn silvanelga_trial_place(mx: i64, nx: i64, my: i64, ny: i64, w: i64) -> SixNumbers
     ensures { result ≡ place_answer (record { mx = mx; nx = nx; my = my; ny = ny; w = w }) }
 {
     numbers::of_place(screen::places::place_of(Point { mx, nx, my, ny, w }))
 }
 
-#[unsafe(no_mangle)]
-pub extern "C" fn silvanelga_trial_box(list: &[i64]) -> SixNumbers
+pub fn silvanelga_trial_box(list: &[i64]) -> SixNumbers
     ensures { result ≡ box_answer list.now }
 {
     numbers::of_box(screen::boxes::box_of(list))

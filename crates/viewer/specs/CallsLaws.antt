@@ -6,14 +6,13 @@
 --   found, missed             what a call of the reader says of the index
 -- Assumes nothing.
 use Rattle.std.proofs.Math.Path.{◌≡◌, refl, ap}
-use Rattle.std.proofs.Common.{sym, ◌∙◌, inl, inr, true≢false, arith, lt-ltb, le-ltb, ltb-true, ltb-false, leb-true, leb-false}
-use Rattle.std.specs.Prelude.{◌⊎◌, Bool, ◌&&◌, ◌||◌, List, [], ◌∷◌, ℕ, zero, suc, ◌*◌, ◌-◌, ◌<◌, ◌≤◌, leb, ltb, ℤ, negsuc, ◌+ℤ◌}
+use Rattle.std.proofs.Common.{◌∙◌, inl, inr, true≢false, arith, lt-ltb, le-ltb, ltb-true, ltb-false, leb-true, leb-false}
+use Rattle.std.specs.Prelude.{◌⊎◌, Bool, ◌||◌, List, ℕ, zero, suc, ◌*◌, ◌-◌, ◌<◌, ◌≤◌, leb, ltb, ℤ, negsuc, ◌+ℤ◌}
 use Rattle.std.proofs.Math.Bool.{true, false, cond}
 use Rattle.std.proofs.Math.IntN.{pos, nat_abs}
 use Rattle.std.proofs.Math.ListN.{length}
 use Rattle.std.specs.Int.Signed.{lt_z, le_z}
-use Rattle.whole.specs.Within.{Within}
-use Rattle.whole.specs.Bound.{w-intro, w-is}
+use Rattle.whole.specs.Bound.{w-intro}
 use Rattle.whole.specs.Tests.{eq-eq_z, ne-eq_z}
 use Rattle.sheet.specs.declared.Object.{Object}
 use Rattle.sheet.specs.Limits.{most}
@@ -22,17 +21,14 @@ use Rattle.sheet.specs.Points.{point_refusal}
 use Rattle.sheet.specs.Signs.{side_sign, side_sign_refusal}
 use Rattle.sheet.specs.Lists.{width, count_of, object_at}
 use Rattle.sheet.specs.Listable.{Listable}
-use Rattle.sheet.specs.Flags.{both, neither, either, flags}
-use Rattle.sheet.specs.RefusalTable.{OneOf}
-use Rattle.sheet.specs.RefusalTableLaws.{split}
-use Rattle.sheet.specs.RefusalLaws.{WithinBoth}
+use Rattle.sheet.specs.Flags.{neither, either, flags}
+use Rattle.sheet.proofs.RefusalLaws.{WithinBoth}
 use Rattle.sheet.specs.PointsLaws.{point-is}
-use Rattle.sheet.specs.EndsLaws.{given-fine}
+use Rattle.sheet.proofs.EndsLaws.{given-fine}
 use Rattle.store.specs.declared.Bookmark.{Bookmark}
 use Rattle.store.specs.declared.Item.TheVariants.{One, End}
-use Rattle.store.specs.Stored.{Drawing, read_drawing}
+use Rattle.store.specs.Stored.{Drawing}
 use Rattle.store.specs.Reader.{step_of, call_from, end_of, item_of}
-use Rattle.store.specs.Refusals.{of_bytes}
 use Rattle.viewer.specs.Calls.{object, whole, index_refusal, side_in}
 use Rattle.viewer.specs.SideFor.{side_for}
 

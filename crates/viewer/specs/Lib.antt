@@ -7,4 +7,3 @@ pub mod Worked
 pub mod SideFor
 -- laws
 pub mod CallsLaws
-pub mod SideIsLaws

@@ -1,4 +1,6 @@
 // The viewer's calls, for C: stored bytes, an index and two numbers in, one number out. Nothing is kept or changed.
+#![tactic(auto)]
+
 ghost use Rattle.std.specs.Prelude.{◌≡◌};
 ghost use Rattle.sheet.specs.Refusal.{Accepted};
 ghost use Rattle.store.specs.Stored.{read_drawing};
@@ -14,8 +16,7 @@ use store::Item;
 const REFUSED: i64 = 100;
 
 // 0, or the number of the refusal that reading the stored bytes meets first.
-#[unsafe(no_mangle)]
-pub extern "C" fn silvanelga_check(bytes: &[u8]) -> i64
+pub fn silvanelga_check(bytes: &[u8]) -> i64
     ensures { result ≡ check_answer bytes.now }
 {
     store::check_drawing(bytes)
@@ -52,8 +53,7 @@ fn side_for(o: Object, x: i64, y: i64) -> i64
 }
 
 // The side of object i for the point x, y: 1 to the left of its arrow, 0 on its line, -1 to the right; or 100 plus the refusal.
-#[unsafe(no_mangle)]
-pub extern "C" fn silvanelga_side(bytes: &[u8], i: i64, x: i64, y: i64) -> i64
+pub fn silvanelga_side(bytes: &[u8], i: i64, x: i64, y: i64) -> i64
     ensures { result ≡ side_answer bytes.now i x y }
 {
     let refusal = store::check_drawing(bytes);
