@@ -8,7 +8,7 @@ use Rattle.sheet.specs.Limits.{most}
 use Rattle.sheet.specs.Lists.{width}
 use Rattle.store.specs.Stored.{read_drawing}
 use Rattle.store.specs.Answers.{read_answer}
-use Rattle.store.specs.RoomyLaws.{roomy}
+use Rattle.store.proofs.RoomyLaws.{roomy}
 use Rattle.stream.specs.Status.{status_of, status_all, MayTell}
 
 pub refusal_is : (bs : List ℕ) (lent : List ℤ) → length lent ≡ most * width → (read_answer (read_drawing bs) lent).refusal ≡ (read_drawing bs).refusal

@@ -1,7 +1,9 @@
 // Reads a stored drawing from standard input and prints its listing. All of its work is in store, listing and rowtext, and in stream, by which
 // bytes come and go.
+#![tactic(auto)]
+
 ghost use Rattle.std.specs.Prelude.{◌≡◌, ◌+◌, ◌*◌, ◌-◌, ◌≤◌, length, take, true};
-ghost use Rattle.io.specs.Counts.{IsPrefixLen};
+ghost use Rattle.stream.specs.Stream.{IsPrefixLen};
 ghost use Rattle.sheet.specs.Limits.{most};
 ghost use Rattle.sheet.specs.Lists.{width, row_width};
 ghost use Rattle.store.specs.Forms.{longest};
@@ -11,8 +13,11 @@ ghost use Rattle.stream.specs.Status.{MayTell};
 ghost use Rattle.list.specs.Asked.{of_most, rows_asked};
 
 use sheet::Object;
+use std::env::{Env, FillError};
+use std::io::Write;
+use std::time::Clock;
 use stream::front;
-use stream::status::{UNREAD, status_of};
+use stream::status::{UNREAD, status_of, tell};
 
 // The numbers of the most objects.
 const NUMBERS: usize = Object::MOST * Object::WIDTH;
@@ -28,9 +33,11 @@ const JOINTS: bool = true;
 
 // The argument that asks for the program's status, and is printed in front of the listing.
 const HEAD: usize = 1;
+// The bytes that it has at most.
+const LONGEST_HEAD: usize = 65536;
 
 // What was said of an object's rows: whether all of it went, and how many there are.
-#[derive(Drop)]
+#[derive(Clone, Copy)]
 struct Said {
     whole: bool,
     rows: usize,
@@ -56,55 +63,63 @@ fn of_most(n: usize) -> usize
 }
 
 // Prints a text where all before it went, and answers whether it did too.
-fn print(whole: bool, text: &[u8]) -> bool
+fn print<W: Write>(rt: &(impl Clock + Eprint), out: &mut W, whole: bool, text: &[u8]) -> bool
     requires { whole ≡ true }
 {
-    let sent = stream::output::hand_on(b"list: standard output", whole, text);
+    let sent = stream::output::hand_on(rt, out, b"list: standard output", whole, text);
     sent.whole
 }
 
 // Prints that argument, which the command `./list` makes the line that names a file.
-fn say_head(whole: bool) -> bool
+fn say_head<W: Write>(rt: &(impl Env + Clock + Eprint), out: &mut W, whole: bool) -> bool
     requires { whole ≡ true }
 {
-    let mut text = io::large_buffer();
-    let n = os::arg(HEAD, &mut text);
-    if os::errno() == libc::ENAMETOOLONG {
-        os::fail(b"list: the line that names a file");
-        return false;
+    let mut text = [0u8; LONGEST_HEAD];
+    match rt.arg(HEAD, &mut text) {
+        Ok(n) => print(rt, out, whole, &text[..n]),
+        Err(FillError::NotPresent) => whole,
+        Err(FillError::TooLong) => {
+            let _ = rt.eprintln("list: the line that names a file: File name too long");
+            false
+        }
     }
-    print(whole, &text[..n])
 }
 
-fn say_refused(whole: bool, number: i64) -> bool
+fn say_refused<W: Write>(rt: &(impl Clock + Eprint), out: &mut W, whole: bool, number: i64) -> bool
     requires { whole ≡ true }
 {
     let mut text = [0u8; rowtext::LINE_MOST];
     let put = rowtext::put_refused(number, &mut text);
     let n = front(put.length, &text);
-    print(whole, &text[..n])
+    print(rt, out, whole, &text[..n])
 }
 
-fn say_objects(whole: bool, count: usize) -> bool
+fn say_objects<W: Write>(rt: &(impl Clock + Eprint), out: &mut W, whole: bool, count: usize) -> bool
     requires { whole ≡ true }
 {
     let mut text = [0u8; rowtext::LINE_MOST];
     let put = rowtext::put_objects(count as u64, &mut text);
     let n = front(put.length, &text);
-    print(whole, &text[..n])
+    print(rt, out, whole, &text[..n])
 }
 
-fn say_count(whole: bool, count: usize) -> bool
+fn say_count<W: Write>(rt: &(impl Clock + Eprint), out: &mut W, whole: bool, count: usize) -> bool
     requires { whole ≡ true }
 {
     let mut text = [0u8; rowtext::LINE_MOST];
     let put = rowtext::put_count(count as u64, &mut text);
     let n = front(put.length, &text);
-    print(whole, &text[..n])
+    print(rt, out, whole, &text[..n])
 }
 
 // Prints the rows of object i with all later ones, and answers how many. A listing counts joints: it asks for them.
-fn say_rows(whole: bool, list: &[i64], i: usize) -> Said
+fn say_rows<W: Write>(
+    rt: &(impl Clock + Eprint),
+    out: &mut W,
+    whole: bool,
+    list: &[i64],
+    i: usize,
+) -> Said
     requires { whole ≡ true }
     ensures { (result.rows ≤ most) × (result.rows ≡ of_most (rows_asked list.now i)) }
 {
@@ -114,7 +129,7 @@ fn say_rows(whole: bool, list: &[i64], i: usize) -> Said
     let mut text = [0u8; TEXT];
     let put = rowtext::put_rows(&rows[..length], &mut text);
     let n = front(put.length, &text);
-    let went = print(whole, &text[..n]);
+    let went = print(rt, out, whole, &text[..n]);
     Said {
         whole: went,
         rows: of_most(listed.rows),
@@ -123,17 +138,23 @@ fn say_rows(whole: bool, list: &[i64], i: usize) -> Said
 
 // Prints a listing, and answers whether all of it went. The brackets hold the program's buffers to what the definitions say that a sheet can
 // need.
-fn say_listing(whole: bool, list: &[i64], count: usize) -> bool
+fn say_listing<W: Write>(
+    rt: &(impl Clock + Eprint),
+    out: &mut W,
+    whole: bool,
+    list: &[i64],
+    count: usize,
+) -> bool
     requires { whole ≡ true }
     ensures value { NUMBERS ≡ most * width }
     ensures value_2 { (ROWS ≡ (most - 1) * row_width) × (TEXT ≡ (most - 1) * row_most) }
 {
     let objects = of_most(count);
-    let mut went = say_objects(whole, count);
+    let mut went = say_objects(rt, out, whole, count);
     let mut total: usize = 0;
     let mut i: usize = 0;
     while went && i < objects {
-        let said = say_rows(went, list, i);
+        let said = say_rows(rt, out, went, list, i);
         went = said.whole;
         total += said.rows;
         i += 1;
@@ -141,12 +162,18 @@ fn say_listing(whole: bool, list: &[i64], count: usize) -> bool
     if !went {
         return false;
     }
-    say_count(went, total)
+    say_count(rt, out, went, total)
 }
 
 // Prints the listing of the drawing that the first of these bytes are, and answers the program's status. There is one more of them than a
 // drawing can have, so that an input that is too long is seen; store's `beginning-decides` says that its beginning is refused as the whole is.
-fn say_drawing(taken: bool, bytes: &[u8], got: usize) -> u8
+fn say_drawing<W: Write>(
+    rt: &(impl Env + Clock + Eprint),
+    out: &mut W,
+    taken: bool,
+    bytes: &[u8],
+    got: usize,
+) -> u8
     requires taken_value { taken ≡ true }
     requires bytes_len { length bytes.now ≡ longest + 1 }
     requires prefix_len { IsPrefixLen got bytes.now }
@@ -155,23 +182,32 @@ fn say_drawing(taken: bool, bytes: &[u8], got: usize) -> u8
     let mut list = [0i64; NUMBERS];
     let read = store::read_drawing(&bytes[..got], &mut list);
     let refusal = read.refusal;
-    let headed = say_head(taken);
+    let headed = say_head(rt, out, taken);
     if !headed {
         return status_of(headed, refusal);
     }
     if refusal != 0 {
-        return status_of(say_refused(headed, refusal), refusal);
+        return status_of(say_refused(rt, out, headed, refusal), refusal);
     }
     let length = of_numbers(read.length, &list);
-    status_of(say_listing(headed, &list[..length], read.count), refusal)
+    status_of(
+        say_listing(rt, out, headed, &list[..length], read.count),
+        refusal,
+    )
 }
 
-fn main() {
+fn main(rt: HostRuntime) {
     let mut bytes = [0u8; store::LONGEST + 1];
-    let taken = stream::input::read_bytes(b"list: standard input", &mut bytes);
+    let taken = stream::input::read_bytes(
+        &rt,
+        &mut rt.stdin(),
+        b"list: standard input",
+        &mut bytes,
+    );
     if !taken.whole {
-        stream::status::tell(HEAD, UNREAD);
+        tell(&rt, HEAD, UNREAD);
         return;
     }
-    stream::status::tell(HEAD, say_drawing(taken.whole, &bytes, taken.length));
+    let status = say_drawing(&rt, &mut rt.stdout(), taken.whole, &bytes, taken.length);
+    tell(&rt, HEAD, status);
 }

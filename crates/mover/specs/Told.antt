@@ -1,8 +1,12 @@
 -- What the program is asked for, and what it tells. Definitions only.
-use Rattle.std.specs.Prelude.{ℕ, zero, suc, ◌≡◌, ◌⊎◌, List, ℤ, pos, negsuc}
+use Rattle.std.specs.Prelude.{ℕ, zero, suc, ◌≡◌, ◌⊎◌, List, ℤ, pos, negsuc, eqb, Option}
+use Rattle.std.specs.Io.KnownBytes.{Keeps}
 use Rattle.decimal.specs.Decimal.{ascii}
+use Rattle.store.specs.declared.Form.{Form}
 use Rattle.store.specs.declared.Form.TheVariants.{Old, New}
-use Rattle.stream.specs.Status.{done, refused, unwritten}
+use Rattle.store.specs.Stored.{move_refusal, moved}
+use Rattle.stream.specs.Status.{done, refused, unread, unwritten}
+use Rattle.stream.specs.Stream.{FrontWent}
 use Rattle.mover.specs.declared.Asked.{Asked}
 use Rattle.mover.specs.declared.Asked.TheVariants.{To, Nothing}
 
@@ -24,3 +28,15 @@ abbrev pub TellsMove : ℤ → ℕ → Type 0
 TellsMove (pos zero) status = (status ≡ done) ⊎ (status ≡ unwritten)
 TellsMove (pos (suc n)) status = status ≡ refused
 TellsMove (negsuc n) status = status ≡ refused
+
+-- what is written of such a drawing: nothing where its move is refused, else a front of the moved bytes, and all of them where "done" is told
+abbrev pub WritesMove : ℤ → ℕ → Option (List ℕ) → Option (List ℕ) → List ℕ → Type 0
+WritesMove (pos zero) status old new bytes = FrontWent (eqb status done) old new bytes
+WritesMove (pos (suc n)) status old new bytes = Keeps old new
+WritesMove (negsuc n) status old new bytes = Keeps old new
+
+-- what is told and written of an input: that it could not be read, and nothing; or what is of a drawing of all its bytes
+abbrev pub MovesInput : Form → ℕ → Option (List ℕ) → Option (List ℕ) → List ℕ → Type 0
+MovesInput form status old new input =
+    ((status ≡ unread) × Keeps old new)
+    ⊎ (TellsMove (move_refusal form input) status × WritesMove (move_refusal form input) status old new (moved form input))

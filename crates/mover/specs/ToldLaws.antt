@@ -3,9 +3,12 @@
 --   refusal_is                   lent bytes for the longest drawing have room for every one, so that moving into them refuses what the move does
 --   Handed, handed               where it does not refuse, the moved bytes stand in front
 --   tells-refused, tells-moved   the status of a drawing, from what `status_of` answers
+--   writes-refused, writes-moved  what is written of a drawing, from what was handed on
+--   moves-unread, moves-input     what is told and written of an input, where it could not be read, and of its beginning
 -- Assumes nothing.
-use Rattle.std.specs.Prelude.{◌≡◌, refl, Bool, true, false, List, ◌++◌, ℕ, zero, suc, ◌≤◌, ℤ, pos, negsuc, length, take, drop}
-use Rattle.std.proofs.Common.{sym, subst, ◌∙◌, true≢false, inl, inr, arith, le-ltb, length-append, take_at}
+use Rattle.std.specs.Prelude.{◌≡◌, refl, Bool, true, false, List, ◌++◌, ℕ, zero, suc, ◌≤◌, ℤ, pos, negsuc, length, take, drop, eqb, Option, None, Some, ◌+◌, ◌<◌, ltb, IfSome}
+use Rattle.std.specs.Io.KnownBytes.{Consumes, IsAtEnd, Keeps}
+use Rattle.std.proofs.Common.{sym, subst, ◌∙◌, true≢false, inl, inr, arith, le-ltb, length-append, take_at, ltb-true, ltb-false, length-take-le, append-nil, take_all}
 use Rattle.std.proofs.Math.Path.{ap}
 use Rattle.std.proofs.Math.Bool.{cond}
 use Rattle.whole.specs.ChoiceLaws.{or-none}
@@ -14,12 +17,15 @@ use Rattle.store.specs.declared.Form.{Form}
 use Rattle.store.specs.declared.Form.TheVariants.{Old, New}
 use Rattle.store.specs.declared.Written.{Written}
 use Rattle.store.specs.Forms.{longest}
-use Rattle.store.specs.Stored.{move_refusal, moved}
+use Rattle.store.specs.Stored.{Drawing, tags_refusal, write_drawing, move_refusal, moved}
+use Rattle.whole.specs.Choice.{or_else}
+use Rattle.store.proofs.LongestLaws.{beginning-decides}
 use Rattle.store.specs.Answers.{move_answer, move_into}
-use Rattle.store.specs.MoveLaws.{moved-no-longer}
-use Rattle.stream.specs.Status.{status_all, status_of}
+use Rattle.store.proofs.MoveLaws.{moved-no-longer}
+use Rattle.stream.specs.Status.{done, unread, status_all, status_of}
+use Rattle.stream.specs.Stream.{FrontWent}
 use Rattle.mover.specs.declared.Asked.TheVariants.{To, Nothing}
-use Rattle.mover.specs.Told.{new_word, old_word, Asks, TellsMove}
+use Rattle.mover.specs.Told.{new_word, old_word, Asks, TellsMove, WritesMove, MovesInput}
 
 -- ---- the word
 
@@ -81,3 +87,72 @@ tells-moved whole z n status e o h = subst (λ (m : ℤ). TellsMove m status) (s
     go : (whole : Bool) → status ≡ status_of whole (pos 0) → TellsMove (pos 0) status
     go true h = inl h
     go false h = inr h
+
+-- ---- what is written
+
+kept-all : (a : Option (List ℕ)) → Keeps a a
+kept-all None = tt
+kept-all (Some xs) = refl
+
+pub writes-refused : (z n : ℤ) (status : ℕ) (a : Option (List ℕ)) (bytes : List ℕ) → z ≡ n → (n ≡ pos 0 → ⊥) → WritesMove n status a a bytes
+writes-refused z (pos zero) status a bytes e wrong = absurd (wrong refl)
+writes-refused z (pos (suc k)) status a bytes e wrong = kept-all a
+writes-refused z (negsuc k) status a bytes e wrong = kept-all a
+
+pub writes-moved : (whole : Bool) (z n : ℤ) (status : ℕ) (a b : Option (List ℕ)) (text bytes : List ℕ) → z ≡ n → n ≡ pos 0 → status ≡ status_of whole z
+    → text ≡ bytes → FrontWent whole a b text → WritesMove n status a b bytes
+writes-moved whole z n status a b text bytes e o h same front =
+    subst (λ (m : ℤ). WritesMove m status a b bytes) (sym o)
+    (subst (λ (t : Bool). FrontWent t a b bytes) (said whole status (h ∙ ap (status_of whole) (e ∙ o)))
+    (subst (FrontWent whole a b) same front))
+  where
+    said : (whole : Bool) (status : ℕ) → status ≡ status_of whole (pos 0) → whole ≡ eqb status done
+    said true status h = sym (ap (λ (s : ℕ). eqb s done) h)
+    said false status h = sym (ap (λ (s : ℕ). eqb s done) h)
+
+-- ---- the input
+
+-- what was read is the input's beginning: all of it, or one byte more than a drawing can have
+beginning : (a b : Option (List ℕ)) (got : ℕ) (bytes : List ℕ) → length bytes ≡ longest + 1 → got ≤ length bytes → Consumes a b (take got bytes)
+    → (got < length bytes → IsAtEnd b) → IfSome a (λ xs. take got bytes ≡ take (longest + 1) xs)
+beginning None b got bytes long within read end = tt
+beginning (Some xs) None got bytes long within read end = absurd read
+beginning (Some xs) (Some ys) got bytes long within read end = go (ltb got (length bytes)) (ltb-true got (length bytes)) (ltb-false got (length bytes))
+  where
+    size : length (take got bytes) ≡ got
+    size = length-take-le got bytes within
+
+    go : (t : Bool) → (t ≡ true → got < length bytes) → (t ≡ false → length bytes ≤ got) → take got bytes ≡ take (longest + 1) xs
+    go true y m =
+        let all : xs ≡ take got bytes = read ∙ ap (λ (l : List ℕ). take got bytes ++ l) (end (y refl)) ∙ append-nil (take got bytes) in
+        sym (ap (take (longest + 1)) all ∙ take_all (longest + 1) (take got bytes) (omega (arith, size)))
+    go false y m =
+        let full : length (take got bytes) ≡ longest + 1 = let h = m refl in omega (arith, size) in
+        sym (ap (take (longest + 1)) read ∙ take_at (take got bytes) ys (longest + 1) full)
+
+same-refusal : (f : Form) (xs : List ℕ) → move_refusal f (take (longest + 1) xs) ≡ move_refusal f xs
+unfolding move_refusal
+same-refusal f xs = ap (λ (r : Drawing). or_else r.refusal (tags_refusal f r.objects)) (beginning-decides xs)
+
+same-bytes : (f : Form) (xs : List ℕ) → moved f (take (longest + 1) xs) ≡ moved f xs
+unfolding moved
+same-bytes f xs = ap (λ (r : Drawing). write_drawing f r.objects) (beginning-decides xs)
+
+pub moves-unread : (f : Form) (status : ℕ) (a old : Option (List ℕ)) → status ≡ unread → IfSome a (MovesInput f status old old)
+moves-unread f status None old e = tt
+moves-unread f status (Some xs) old e = inl (e, kept-all old)
+
+pub moves-input : (f : Form) (status : ℕ) (a b old new : Option (List ℕ)) (got : ℕ) (bytes : List ℕ) → length bytes ≡ longest + 1 → got ≤ length bytes
+    → Consumes a b (take got bytes) → (got < length bytes → IsAtEnd b)
+    → TellsMove (move_refusal f (take got bytes)) status → WritesMove (move_refusal f (take got bytes)) status old new (moved f (take got bytes))
+    → IfSome a (MovesInput f status old new)
+moves-input f status None b old new got bytes long within read end tells writes = tt
+moves-input f status (Some xs) b old new got bytes long within read end tells writes =
+    let front = beginning (Some xs) b got bytes long within read end in
+    let refusal = ap (move_refusal f) front ∙ same-refusal f xs in
+    let text = ap (moved f) front ∙ same-bytes f xs in
+    inr (
+      subst (λ (n : ℤ). TellsMove n status) refusal tells,
+      subst (λ (n : ℤ). WritesMove n status old new (moved f xs)) refusal
+          (subst (WritesMove (move_refusal f (take got bytes)) status old new) text writes),
+    )

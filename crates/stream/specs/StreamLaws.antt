@@ -1,6 +1,6 @@
 -- What a call moves is never more than what was left. To cite:
 --   More, more      a call that moved something: what has gone then is within the whole
---   none            a call that moved nothing
+--   none            a call that moved nothing, or failed
 --   rest-moved      what a call on the rest of a list answers, said of the list's length
 --   read-moved      the same of a list that was changed and is as long
 --   kept            where `!b` was not taken, b holds
@@ -8,34 +8,31 @@
 --   not-begun       a text behind one that did not go
 --   handed          a text of which so many bytes went
 --   read_none, read_some   an input that could not be read; one that ended, or filled the cells
--- An answer is z, and o is what the code reads it as. Assumes nothing.
-use Rattle.std.specs.Prelude.{◌≡◌, refl, Bool, true, false, not, List, ℕ, ◌+◌, ◌-◌, ◌≤◌, T, eqb, ℤ, pos, negsuc, nat_abs, length, take, drop}
-use Rattle.std.proofs.Common.{sym, subst, true≢false, arith, ltb-false, length-drop, length-take-le}
-use Rattle.std.specs.Int.Signed.{lt_z, non_neg}
-use Rattle.io.specs.Counts.{IsPrefixLen}
-use Rattle.libc.specs.Io.{Moved}
+--   went-more       what a writer took of a text's rest stands behind what it took before
+--   taken-more      what a reader gave into the cells behind `done` stands behind what it gave before
+--   front-went      a text that was handed on where all before it went: its front went
+-- Assumes nothing.
+use Rattle.std.specs.Prelude.{◌≡◌, refl, Bool, true, false, not, List, ℕ, ◌+◌, ◌-◌, ◌≤◌, eqb, length, take, drop, Option, None, Some, Result, Ok, Err, MatchResult}
+use Rattle.std.proofs.Common.{sym, subst, ap, ◌∙◌, true≢false, eqb-true, arith, length-drop, length-take-le}
+use Rattle.std.specs.Io.KnownBytes.{Appends, Consumes, Keeps, WriteAppends}
 use Rattle.stream.specs.declared.output.Sent.{Sent}
-use Rattle.stream.specs.declared.input.Taken.{Taken}
-use Rattle.stream.specs.Stream.{gone, HandedOn, ReadInto}
+use Rattle.stream.specs.Stream.{IsPrefixLen, gone, Moved, HandedOn, ReadInto, FrontWent}
+use lib.Seq.{take-add}
+use Rattle.std.proofs.KnownBytes.{Appends-trans, Consumes-trans, Consumes-kept}
 
-pub record More (d a : ℕ) (z o : ℤ) : Type 0 where
-  pub positive : T (non_neg o)
-  pub within : d + nat_abs o ≤ a
-  pub is : d + nat_abs o ≡ gone d z
+pub record More {E : Type 0} (d a k : ℕ) (r : Result ℕ E) : Type 0 where
+  pub within : d + k ≤ a
+  pub is : d + k ≡ gone d r
 
-pub more : (d a : ℕ) (z o : ℤ) → o ≡ z → d ≤ a → Moved (a - d) z → lt_z (pos 0) o ≡ true → More d a z o
-more d a z o e h m t = subst (λ (o : ℤ). More d a z o) (sym e) (go z m (subst (λ (o : ℤ). lt_z (pos 0) o ≡ true) e t))
+pub more : {E : Type 0} (d a k : ℕ) (r : Result ℕ E) → r ≡ Ok k → d ≤ a → Moved (a - d) r → More d a k r
+more {E} d a k r e h m = subst (λ (r : Result ℕ E). More d a k r) (sym e) (go (subst (λ (r : Result ℕ E). Moved (a - d) r) e m))
   where
-    go : (z : ℤ) → Moved (a - d) z → lt_z (pos 0) z ≡ true → More d a z z
-    go (pos k) m t = record { positive = tt; within = omega arith; is = refl }
-    go (negsuc k) m t = absurd (true≢false (sym t))
+    go : Moved {E = E} (a - d) (Ok k) → More {E = E} d a k (Ok k)
+    go m = record { within = omega arith; is = refl }
 
-pub none : (d : ℕ) (z o : ℤ) → o ≡ z → lt_z (pos 0) o ≡ false → d ≡ gone d z
-none d z o e t = go z (subst (λ (o : ℤ). lt_z (pos 0) o ≡ false) e t)
-  where
-    go : (z : ℤ) → lt_z (pos 0) z ≡ false → d ≡ gone d z
-    go (pos k) t = let h = ltb-false 0 k t in omega arith
-    go (negsuc k) t = refl
+pub none : {E : Type 0} (d : ℕ) (r : Result ℕ E) → Moved 0 r → d ≡ gone d r
+none d (Ok k) h = omega arith
+none d (Err e) h = refl
 
 rest-length : (xs : List ℕ) (d : ℕ) → length (take (length xs - d) (drop d xs)) ≡ length xs - d
 rest-length xs d =
@@ -43,13 +40,11 @@ rest-length xs d =
     let h : length xs - d ≤ length (drop d xs) = omega (arith, e) in
     length-take-le (length xs - d) (drop d xs) h
 
-pub rest-moved : (xs : List ℕ) (d : ℕ) (z o : ℤ) → o ≡ z → Moved (length (take (length xs - d) (drop d xs))) z → Moved (length xs - d) o
-rest-moved xs d z o e m =
-    subst (λ (o : ℤ). Moved (length xs - d) o) (sym e) (subst (λ (n : ℕ). Moved n z) (rest-length xs d) m)
+pub rest-moved : {E : Type 0} (xs : List ℕ) (d : ℕ) (r : Result ℕ E) → Moved (length (take (length xs - d) (drop d xs))) r → Moved (length xs - d) r
+rest-moved xs d r m = subst (λ (n : ℕ). Moved n r) (rest-length xs d) m
 
-pub read-moved : (n m d : ℕ) (z o : ℤ) → m ≡ n → o ≡ z → Moved (n - d) z → Moved (m - d) o
-read-moved n m d z o l e h =
-    subst (λ (o : ℤ). Moved (m - d) o) (sym e) (subst (λ (k : ℕ). Moved (k - d) z) (sym l) h)
+pub read-moved : {E : Type 0} (n m d : ℕ) (r : Result ℕ E) → m ≡ n → Moved (n - d) r → Moved (m - d) r
+read-moved n m d r l h = subst (λ (k : ℕ). Moved (k - d) r) (sym l) h
 
 pub counted : (n : ℕ) (xs : List ℕ) → n ≤ length xs → IsPrefixLen n xs
 counted n xs h = (h, sym (length-take-le n xs h))
@@ -73,3 +68,29 @@ read_none before after e = record { cells = e; front = omega arith }
 pub read_some : (n : ℕ) (before after : List ℕ) → length after ≡ length before → n ≤ length after
     → ReadInto before after (record { whole = true; length = n })
 read_some n before after e h = record { cells = e; front = h }
+
+-- ---- the bytes themselves, where they are known
+
+appends-kept : (a b c : Option (List ℕ)) (bs : List ℕ) → Appends a b bs → Keeps b c → Appends a c bs
+appends-kept None b c bs p q = tt
+appends-kept (Some x) None c bs p q = absurd p
+appends-kept (Some x) (Some y) None bs p q = absurd q
+appends-kept (Some x) (Some y) (Some z) bs p q = q ∙ p
+
+pub went-more : {E : Type 0} (a b c : Option (List ℕ)) (text : List ℕ) (done n : ℕ) (r : Result ℕ E) → n ≡ gone done r
+    → Appends a b (take done text) → WriteAppends b c r (drop done text) → Appends a c (take n text)
+went-more a b c text done n (Ok k) e before write =
+    subst (Appends a c) (sym (ap (λ (m : ℕ). take m text) e ∙ take-add done k text)) (Appends-trans a b c _ _ before write)
+went-more a b c text done n (Err x) e before write = subst (λ (m : ℕ). Appends a c (take m text)) (sym e) (appends-kept a b c _ before write)
+
+pub taken-more : {E : Type 0} (a b c : Option (List ℕ)) (old new : List ℕ) (done n : ℕ) (r : Result ℕ E) → n ≡ gone done r → take done new ≡ take done old
+    → Consumes a b (take done old) → MatchResult r (λ k. Consumes b c (take k (drop done new))) (λ _. Keeps b c) → Consumes a c (take n new)
+taken-more a b c old new done n (Ok k) e front before read =
+    subst (Consumes a c) (sym (ap (λ (m : ℕ). take m new) e ∙ take-add done k new)) (Consumes-trans a b c _ _ (subst (Consumes a b) (sym front) before) read)
+taken-more a b c old new done n (Err x) e front before read =
+    subst (λ (m : ℕ). Consumes a c (take m new)) (sym e) (Consumes-kept a b c _ (subst (Consumes a b) (sym front) before) read)
+
+pub front-went : (before : Bool) (a b : Option (List ℕ)) (text : List ℕ) (r : Sent) → before ≡ true → HandedOn before text r → Appends a b (take r.length text)
+    → FrontWent r.whole a b text
+front-went true a b text r e h went = record { count = r.length; within = h.front; went = went; all = λ w. eqb-true r.length (length text) (sym h.told ∙ w) }
+front-went false a b text r e h went = absurd (true≢false (sym e))

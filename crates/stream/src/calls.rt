@@ -1,57 +1,74 @@
-// The C library's calls, made until they need not be made again: one that was interrupted at once, and one that would block after a while.
+// Reads and writes that are made until they need not be made again: one that was interrupted at once, and one that would block after a while.
 ghost use Rattle.std.specs.Prelude.{◌≡◌, ◌-◌, ◌≤◌};
-ghost use Rattle.libc.specs.Io.{Moved};
-ghost use Rattle.stream.specs.Stream.{gone};
+ghost use Rattle.stream.specs.Stream.{Moved, gone};
+
+use std::fmt::InlineText;
+use std::io::{Error, ErrorKind};
+use std::thread;
+use std::time::{Clock, Duration};
 
 // The turns of a loop that may have to wait. A proved loop has to end, and nothing says that the other end of a pipe is ever read: this many
 // turns last longer than a machine.
 pub(crate) const TURNS: u64 = u64::MAX;
 // How long the program waits, in nanoseconds, before it makes a call again that would have blocked.
-const NAP: i64 = 2000000;
+const NAP: u64 = 2000000;
 
-// Waits for a while. A reference to a struct is proved by a walk of the code, so there is nothing else here.
-fn wait() {
-    let asked = libc::types::timespec {
-        tv_sec: 0,
-        tv_nsec: NAP,
-    };
-    let mut left = libc::types::timespec {
-        tv_sec: 0,
-        tv_nsec: 0,
-    };
-    libc::nanosleep(&asked, &mut left);
+// Waits for a while.
+fn wait(rt: &impl Clock) {
+    thread::sleep(rt, Duration::from_nanos(NAP));
 }
 
 // Whether a call that failed is to be made again.
-fn again() -> bool {
-    let error = os::errno();
-    if error == libc::EINTR {
-        return true;
+fn again(rt: &impl Clock, error: Error) -> bool {
+    match error.kind() {
+        ErrorKind::Interrupted => true,
+        ErrorKind::WouldBlock => {
+            wait(rt);
+            true
+        }
+        _ => false,
     }
-    if error == libc::EAGAIN {
-        wait();
-        return true;
-    }
-    false
 }
 
 // Whether bytes go on after such an answer.
-pub(crate) fn goes_on(answer: isize) -> bool {
-    if answer < 0 {
-        return again();
+pub(crate) fn goes_on(rt: &impl Clock, answer: Result<usize, Error>) -> bool {
+    match answer {
+        Ok(moved) => moved > 0,
+        Err(error) => again(rt, error),
     }
-    answer > 0
 }
 
 // How many of `all` bytes have gone after a call on those behind `done`.
-pub(crate) fn after(done: usize, answer: isize, all: usize) -> usize
+pub(crate) fn after(done: usize, answer: Result<usize, Error>, all: usize) -> usize
     requires done_le_all { done ≤ all }
     requires moved { Moved (all - done) answer }
     ensures value { result ≡ gone done answer }
     ensures upper_bound { result ≤ all }
 {
-    if answer > 0 {
-        return done + answer as usize;
+    match answer {
+        Ok(moved) => done + moved,
+        Err(_) => done,
     }
-    done
+}
+
+// The bytes that an error's text has at most, with the number behind it.
+const LONGEST_ERROR: usize = 256;
+
+// An error's text as the C library has it: std puts the error's number behind it.
+fn without_number(text: &str) -> &str {
+    match text.split_once(" (os error ") {
+        Some((why, _)) => why,
+        None => text,
+    }
+}
+
+// Says on standard error that a call failed, and why.
+pub(crate) fn fail(rt: &impl Eprint, what: &[u8], error: Error) {
+    let text = InlineText::<LONGEST_ERROR>::of(error);
+    fail_because(rt, what, without_number(text.as_str()));
+}
+
+// Says on standard error that a call failed, for this reason. That it cannot be said is not told.
+pub(crate) fn fail_because(rt: &impl Eprint, what: &[u8], why: &str) {
+    let _ = rt.eprintln(format_args!("{}: {}", what.escape_ascii(), why));
 }

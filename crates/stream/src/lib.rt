@@ -1,12 +1,14 @@
-// Bytes in and out of a program, by the C library's calls, and what it tells of its end. A failure is said on standard error, of the words that
-// the caller names the stream by.
-pub mod input; // input.rt: bytes from standard input
-pub mod output; // output.rt: bytes to standard output
+// Bytes in and out of a program, and what it tells of its end. A failure is said on standard error, of the words that the caller names the
+// stream by.
+#![tactic(auto)]
+
+pub mod input; // input.rt: bytes from an input
+pub mod output; // output.rt: bytes to an output
 pub mod status; // status.rt: what a program tells of its end
-mod calls; // calls.rt: calls that are made again, and what they moved
+mod calls; // calls.rt: calls that are made again, what they moved, and why they failed
 
 ghost use Rattle.std.specs.Prelude.{◌≡◌, min, length};
-ghost use Rattle.io.specs.Counts.{IsPrefixLen};
+ghost use Rattle.stream.specs.Stream.{IsPrefixLen};
 
 // n, or as many bytes as there are.
 pub fn front(n: usize, bytes: &[u8]) -> usize

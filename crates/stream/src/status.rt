@@ -1,7 +1,8 @@
-// What a program tells of its end, which has no exit status of its own: one byte on a descriptor, where it was started with an argument that
-// asks for it.
+// What a program tells of its end: one byte on a descriptor, where it was started with an argument that asks for it. Its exit status stays 0.
 ghost use Rattle.std.specs.Prelude.{◌≡◌, pos};
 ghost use Rattle.stream.specs.Status.{done, refused, unread, unwritten, status_descriptor, status_of};
+
+use std::env::{Env, FillError};
 
 // All went, the input was refused, it could not be read, the output could not be written.
 pub const DONE: u8 = b'0';
@@ -15,8 +16,8 @@ pub const UNWRITTEN: u8 = b'3';
 // Where the status is told.
 const STATUS_FILENO: i32 = 3;
 
-// The status of an input that was read: whether all of the output went, and the input's refusal, 0 for none. The brackets hold the four bytes
-// to their definitions.
+// The status of an input that was read: whether all of the output went, and the input's refusal, 0 for none. The brackets hold the four
+// bytes to their definitions.
 pub fn status_of(whole: bool, refusal: i64) -> u8
     ensures answer { result ≡ status_of whole refusal }
     ensures names { (DONE ≡ done) × (REFUSED ≡ refused) × (UNREAD ≡ unread) × (UNWRITTEN ≡ unwritten) }
@@ -30,13 +31,14 @@ pub fn status_of(whole: bool, refusal: i64) -> u8
     DONE
 }
 
-// Tells a status where the program was started with an argument at this place, counted from 1. The bracket holds the descriptor to its
-// definition; that the byte arrives no contract of a C call says.
-pub fn tell(argument: usize, status: u8)
+// Tells a status where the program was started with an argument at this place, counted from 1. The clause holds the descriptor to its
+// definition; that the byte arrives no contract says.
+pub fn tell(rt: &impl Env, argument: usize, status: u8)
     ensures { STATUS_FILENO ≡ pos status_descriptor }
 {
-    if os::arg_count() > argument {
-        let said = [status];
-        io::write_all(STATUS_FILENO, &said);
+    if let Err(FillError::NotPresent) = rt.arg(argument, &mut []) {
+        return;
     }
+    let said = [status];
+    io::write_all(STATUS_FILENO, &said);
 }

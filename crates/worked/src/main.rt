@@ -1,4 +1,6 @@
 // Document 01's cases, run: each line names a case and says what the calls answer. The file stdout has what they should.
+#![tactic(auto)]
+
 mod circles;
 mod drawings;
 mod forms;
@@ -8,51 +10,52 @@ mod say;
 mod screens;
 mod tags;
 
-fn main() {
-    kernels::numbers();
-    kernels::makers();
-    kernels::points_and_sides();
-    kernels::checks();
-    kernels::ends();
-    kernels::standing_ends();
-    kernels::signs();
-    kernels::orders();
-    kernels::sides();
-    kernels::frame_sides();
-    kernels::crossings();
-    kernels::on_one_line();
-    kernels::shared_points();
-    circles::sides();
-    circles::on_one_line();
-    circles::refusals();
-    drawings::reading();
-    drawings::groups();
-    drawings::short_drawings();
-    drawings::after_the_last();
-    drawings::limits();
-    drawings::writing();
-    drawings::refused_writing();
-    listings::every_pair();
-    listings::one_object();
-    listings::joints();
-    listings::near_ones();
-    tags::makers();
-    tags::nothing_else();
-    tags::refusals();
-    tags::writing();
-    forms::reading();
-    forms::heads();
-    forms::writing();
-    forms::moves();
-    forms::refused_moves();
-    forms::which();
-    screens::edges();
-    screens::corners();
-    screens::every_end();
-    screens::line_ends();
-    screens::side_ends();
-    screens::positions();
-    screens::points();
-    screens::boxes();
-    screens::refused_boxes();
+use std::io;
+
+fn main(rt: HostRuntime) -> io::Result<()> {
+    kernels::numbers(&rt)?;
+    kernels::makers(&rt)?;
+    kernels::points_and_sides(&rt)?;
+    kernels::checks(&rt)?;
+    kernels::ends(&rt)?;
+    kernels::standing_ends(&rt)?;
+    kernels::signs(&rt)?;
+    kernels::orders(&rt)?;
+    kernels::sides(&rt)?;
+    kernels::frame_sides(&rt)?;
+    kernels::crossings(&rt)?;
+    kernels::on_one_line(&rt)?;
+    kernels::shared_points(&rt)?;
+    circles::sides(&rt)?;
+    circles::on_one_line(&rt)?;
+    circles::refusals(&rt)?;
+    drawings::reading(&rt)?;
+    drawings::groups(&rt)?;
+    drawings::short_drawings(&rt)?;
+    drawings::after_the_last(&rt)?;
+    drawings::limits(&rt)?;
+    drawings::writing(&rt)?;
+    drawings::refused_writing(&rt)?;
+    listings::every_pair(&rt)?;
+    listings::one_object(&rt)?;
+    listings::joints(&rt)?;
+    tags::makers(&rt)?;
+    tags::nothing_else(&rt)?;
+    tags::refusals(&rt)?;
+    tags::writing(&rt)?;
+    forms::reading(&rt)?;
+    forms::heads(&rt)?;
+    forms::writing(&rt)?;
+    forms::moves(&rt)?;
+    forms::refused_moves(&rt)?;
+    forms::which(&rt)?;
+    screens::edges(&rt)?;
+    screens::corners(&rt)?;
+    screens::every_end(&rt)?;
+    screens::line_ends(&rt)?;
+    screens::side_ends(&rt)?;
+    screens::positions(&rt)?;
+    screens::points(&rt)?;
+    screens::boxes(&rt)?;
+    screens::refused_boxes(&rt)
 }

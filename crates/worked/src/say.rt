@@ -1,127 +1,121 @@
 // Words and numbers on standard output.
 use sheet::{Crossing, Ends, Made, Object, Point, Signed};
+use std::io;
 use store::{Form, Formed};
 
-pub fn text(words: &[u8]) {
-    io::write_all(1, words);
+pub fn text(rt: &impl Print, words: &str) -> io::Result<()> {
+    rt.print(words)
 }
 
-pub fn number(n: i64) {
-    if n < 0 {
-        text(b" -");
-    } else {
-        text(b" ");
+pub fn number(rt: &impl Print, n: i64) -> io::Result<()> {
+    print!(rt; " {n}")
+}
+
+pub fn numbers(rt: &impl Print, list: &[i64]) -> io::Result<()> {
+    for n in list {
+        number(rt, *n)?;
     }
-    io::print_decimal(1, whole::size(n));
+    Ok(())
 }
 
-pub fn numbers(list: &[i64]) {
-    let mut i: usize = 0;
-    while i < list.len() {
-        number(list[i]);
-        i += 1;
-    }
+pub fn count(rt: &impl Print, n: u64) -> io::Result<()> {
+    print!(rt; " {n}")
 }
 
-pub fn count(n: u64) {
-    text(b" ");
-    io::print_decimal(1, n);
+pub fn byte(rt: &impl Print, b: u8) -> io::Result<()> {
+    count(rt, b as u64)
 }
 
-pub fn byte(b: u8) {
-    count(b as u64);
+pub fn end(rt: &impl Print) -> io::Result<()> {
+    text(rt, "\n")
 }
 
-pub fn end() {
-    text(b"\n");
+pub fn refused(rt: &impl Print, n: i64) -> io::Result<()> {
+    text(rt, " refused")?;
+    number(rt, n)?;
+    end(rt)
 }
 
-pub fn refused(n: i64) {
-    text(b" refused");
-    number(n);
-    end();
+pub fn point(rt: &impl Print, p: Point) -> io::Result<()> {
+    text(rt, " point")?;
+    number(rt, p.mx)?;
+    number(rt, p.nx)?;
+    number(rt, p.my)?;
+    number(rt, p.ny)?;
+    number(rt, p.w)
 }
 
-pub fn point(p: Point) {
-    text(b" point");
-    number(p.mx);
-    number(p.nx);
-    number(p.my);
-    number(p.ny);
-    number(p.w);
+pub fn object(rt: &impl Print, o: Object) -> io::Result<()> {
+    text(rt, " object")?;
+    number(rt, o.kind)?;
+    number(rt, o.px)?;
+    number(rt, o.py)?;
+    number(rt, o.qx)?;
+    number(rt, o.qy)?;
+    number(rt, o.tag)
 }
 
-pub fn object(o: Object) {
-    text(b" object");
-    number(o.kind);
-    number(o.px);
-    number(o.py);
-    number(o.qx);
-    number(o.qy);
-    number(o.tag);
-}
-
-pub fn made(m: Made) {
+pub fn made(rt: &impl Print, m: Made) -> io::Result<()> {
     match m {
         Made::Done(o) => {
-            object(o);
-            end();
+            object(rt, o)?;
+            end(rt)
         }
-        Made::Refused(n) => refused(n),
+        Made::Refused(n) => refused(rt, n),
     }
 }
 
-pub fn ends(e: Ends) {
+pub fn ends(rt: &impl Print, e: Ends) -> io::Result<()> {
     match e {
         Ends::Both(first, last) => {
-            point(first);
-            point(last);
-            end();
+            point(rt, first)?;
+            point(rt, last)?;
+            end(rt)
         }
-        Ends::Refused(n) => refused(n),
+        Ends::Refused(n) => refused(rt, n),
     }
 }
 
-pub fn signed(s: Signed) {
+pub fn signed(rt: &impl Print, s: Signed) -> io::Result<()> {
     match s {
         Signed::Sign(n) => {
-            text(b" sign");
-            number(n);
-            end();
+            text(rt, " sign")?;
+            number(rt, n)?;
+            end(rt)
         }
-        Signed::Refused(n) => refused(n),
+        Signed::Refused(n) => refused(rt, n),
     }
 }
 
-pub fn crossing(c: Crossing) {
+pub fn crossing(rt: &impl Print, c: Crossing) -> io::Result<()> {
     match c {
         Crossing::Nothing => {
-            text(b" none");
-            end();
+            text(rt, " none")?;
+            end(rt)
         }
         Crossing::Once(e) => {
-            point(e);
-            end();
+            point(rt, e)?;
+            end(rt)
         }
         Crossing::Many => {
-            text(b" many");
-            end();
+            text(rt, " many")?;
+            end(rt)
         }
-        Crossing::Refused(n) => refused(n),
+        Crossing::Refused(n) => refused(rt, n),
     }
 }
 
-fn form(form: Form) {
+fn form(rt: &impl Print, form: Form) -> io::Result<()> {
     match form {
-        Form::Old => text(b" old"),
-        Form::New => text(b" new"),
+        Form::Old => text(rt, " old"),
+        Form::New => text(rt, " new"),
     }
 }
 
-pub fn formed(formed: Formed) {
+pub fn formed(rt: &impl Print, formed: Formed) -> io::Result<()> {
     match formed {
-        Formed::Has(f) => form(f),
-        Formed::Refused(no) => number(no),
+        Formed::Has(f) => form(rt, f)?,
+        Formed::Refused(no) => number(rt, no)?,
     }
-    end();
+    end(rt)
 }
