@@ -1,8 +1,8 @@
 # What the commands ./list and ./move share: how a program is built the first time, run, and its failures said. A command sets `command`, its
 # own name, `crate`, that of its program, and `here`, the folder that it stands in, has a function `usage`, and reads this file.
 #
-# A program reads standard input. Asked for its status it tells it to descriptor 3: 0 done, 1 refused, 2 not read, 3 not written. A Rattle
-# program has no exit status of its own.
+# A program reads standard input. Asked for its status it tells it to descriptor 3: 0 done, 1 refused, 2 not read, 3 not written. It ends with
+# the exit status 0, whatever came.
 
 say() { # MESSAGE
     printf '%s: %s\n' "$command" "$1" >&2
@@ -53,31 +53,25 @@ need_rt() {
     command -v rt >/dev/null || fail "the Rattle kit's command rt is not on the PATH: install the kit and put its bin/ there"
 }
 
+# Whether a file of the crates is newer than the program; what rt makes in a crate's out/ is none of theirs.
+is_old() {
+    [ ! -x "$program" ] || [ "$here/crates.txt" -nt "$program" ] ||
+        [ -n "$(find "$here/crates" -mindepth 2 \( -name out -prune -o -newer "$program" -print -quit \))" ]
+}
+
 # Proves and builds the program where it is older than its source: one line with a dot for each crate that is proved. The log is in target/.
 build() {
-    [ -x "$program" ] && [ -z "$(find "$here/crates" "$here/crates.txt" -newer "$program" -print -quit)" ] && return
+    is_old || return 0
     need_rt
     local log=$here/target/$command.log
     { mkdir -p "$here/target" && true >"$log"; } || exit 2
     printf '%s: proving and building the program, which is done once and takes some minutes ' "$command" >&2
-    (trap - PIPE XFSZ && cd "$here" && rt check "$crate" 2>&1 </dev/null) | tee -- "$log" | while IFS= read -r line; do
-        case $line in "rt: "*" proved ("*) printf . >&2 ;; esac
+    (trap - PIPE XFSZ && "$here/build" "$crate" 2>&1 </dev/null) | tee -- "$log" | while IFS= read -r line; do
+        case $line in "logic=proved "*) printf . >&2 ;; esac
     done
     local built=$?
     printf '\n' >&2
     [ "$built" -eq 0 ] || fail "the program could not be built: see $log"
-    touch -- "$program"
-}
-
-# What the program runs under: the kit compiles for x86-64, and elsewhere its emulator runs it, under the kit's own loader and C library.
-find_runner() {
-    runner=()
-    [ "$(uname -m)" != x86_64 ] || return 0
-    need_rt
-    local kit tools
-    kit=$(cd "$(dirname "$(readlink -f "$(command -v rt)")")/.." && pwd -P) || exit 2
-    tools=$kit/on/$(uname -m)/toolchain
-    runner=("$tools/bin/qemu-x86_64" "$tools/lib/ld-linux-x86-64.so.2" --library-path "$tools/lib")
 }
 
 # Runs the program on FILE with arguments, by which it is asked for its status, and gives that. What the subshell tells is why FILE cannot be
@@ -89,7 +83,7 @@ run() { # FILE ARGUMENT...
         exec 2>&1
         [ "$file" = - ] || exec <"$file" || exit
         exec 3>&1 >&"$output" {output}>&-
-        exec "${runner[@]}" "$program" "$@"
+        exec "$program" "$@"
     )
     ended=$?
     case $told in

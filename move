@@ -33,6 +33,5 @@ esac
 why=$(obstacle -)
 [ -z "$why" ] || fail "standard input: $why"
 build
-find_runner
 run - "$1" status
 end $?

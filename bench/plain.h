@@ -12,9 +12,6 @@ enum { OLD = 1, NEW = 2 }; /* the forms of a stored drawing */
 
 /* the rows of all sharing pairs, without joints unless they are asked for; their count, or minus the refusal */
 int64_t plain_list(const int64_t *list, size_t length, bool joints, int64_t *rows, size_t room);
-/* the same without a look at pairs that stand apart in x, and how many pairs of an accepted list do not; in plain_near.c */
-int64_t plain_near(const int64_t *list, size_t length, bool joints, int64_t *rows, size_t room);
-size_t plain_near_pairs(const int64_t *list, size_t length);
 /* a stored drawing of either form read, written in a form, and moved to a form; the count of numbers or bytes, or minus the refusal */
 int64_t plain_read(const uint8_t *bytes, size_t length, int64_t *list, size_t room);
 int64_t plain_write(int64_t form, const int64_t *list, size_t length, uint8_t *bytes, size_t room);

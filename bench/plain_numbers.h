@@ -1,4 +1,4 @@
-/* Numbers and points, for the files of plain C. */
+/* Numbers and points, for both files of plain C. */
 #ifndef PLAIN_NUMBERS_H
 #define PLAIN_NUMBERS_H
 #include "plain.h"

@@ -48,49 +48,8 @@ static void corners(int64_t *o, int i)
     else set(o, 1, x, y, far_x, far_y);
 }
 
-/* the next four take no random numbers, so that what is made behind them is as it is without them */
-
-/* a closed outline in pieces of about 4, round at its corners, with its inside on the left: each quarter of it turns from one piece's direction to
-   the next one's, and is the one before it turned by a quarter */
-static void outline(int64_t *o, int i)
-{
-    enum { QUARTERS = 4, SAME = 16, DIRECTIONS = MOST / QUARTERS / SAME };
-    static const int64_t across[DIRECTIONS] = {4, 4, 4, 3, 2, 1, 0, 0}, up[DIRECTIONS] = {0, 1, 2, 3, 4, 4, 4, 4};
-    static int64_t x, y;
-    if (i == 0) x = -100, y = -300;
-    int64_t k = i / SAME % DIRECTIONS, dx = across[k], dy = up[k];
-    for (int quarter = i / (MOST / QUARTERS); quarter > 0; quarter--) {
-        int64_t turned = -dy;
-        dy = dx, dx = turned;
-    }
-    set(o, 1, x, y, x + dx, y + dy);
-    x += dx, y += dy;
-}
-
-/* short segments around a few x */
-static void cluster(int64_t *o, int i)
-{
-    int64_t x = 900 * (i % 4) - 1350 + 37 * i % 23, y = 71 * i % 401 - 200;
-    set(o, 1, x, y, x + 1 + i % 9, y + i % 7 - 3);
-}
-
-/* lines upright, each in an x of its own, up and down */
-static void vertical(int64_t *o, int i)
-{
-    int64_t x = 7 * (197 * i % MOST) - 1790;
-    set(o, 3, x, 0, x, i % 2 == 0 ? 1 : -1);
-}
-
-/* segments over one another: all are near, and none share anything */
-static void column(int64_t *o, int i)
-{
-    int64_t y = 3 * (i - MOST / 2), turn = i % 2 == 0 ? 1 : -1;
-    set(o, 1, -turn * (100 + i % 7), y, turn * (100 + i % 11), y + 1);
-}
-
 static const struct { const char *name; void (*make)(int64_t *, int); } sheets[] = {
-    {"uniform", uniform}, {"lines only", lines}, {"grid", grid}, {"chains", chains}, {"with sides", sides}, {"corners", corners},
-    {"outline", outline}, {"cluster", cluster}, {"vertical", vertical}, {"column", column}};
+    {"uniform", uniform}, {"lines only", lines}, {"grid", grid}, {"chains", chains}, {"with sides", sides}, {"corners", corners}};
 enum { SHEETS = sizeof sheets / sizeof *sheets };
 
 /* a sheet whose objects are of so many layers in turn: of one layer the tags are all 0, and it can be stored in the old form */

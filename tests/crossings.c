@@ -1,9 +1,7 @@
 /* How many instructions a listing takes, of all pairs and of one object with all later ones. Listings of two sheets, in which every two objects
    share one point, which is a joint for none or for all: into no room, asked for joints, which is refused with 10 after one crossing a pair; and
    into room for exactly every pair, with joints and without, which is to take one crossing a pair as well.
-   And the listing that skips pairs that stand apart: of segments side by side, and of the same over one another, which share nothing either.
-   Standard output, a line for each sheet and either listing: how many pairs, and the three counts; and a line with how many pairs, and the two
-   counts of the other one. */
+   Standard output, a line for each sheet and either listing: how many pairs, and the three counts. */
 #include "steps.h"
 #include "trial.h"
 #include <stdio.h>
@@ -31,18 +29,6 @@ static void say(bool one, size_t pairs, bool all_joints)
     printf("%zu %ld %ld %ld\n", pairs, refused, with, without);
 }
 
-static long counted_near(bool over)
-{
-    struct listed listed;
-    for (int k = 0; k < OBJECTS; k++) {
-        const int64_t x = over ? 0 : 7 * k, y = over ? 7 * k : 0, object[WIDTH] = {1, x, y, x + 3, y + 1 + k % 2, k};
-        for (int n = 0; n < WIDTH; n++) list[WIDTH * k + n] = object[n];
-    }
-    COUNTED(listed = silvanelga_trial_near(list, OBJECTS * WIDTH, true, rows, PAIRS * ROW));
-    if (listed.refusal != 0 || listed.rows != 0) exit(2);
-    return steps;
-}
-
 int main(void)
 {
     count_steps();
@@ -54,6 +40,5 @@ int main(void)
         say(false, PAIRS, sheet == STAR);
         say(true, LATER, sheet == STAR);
     }
-    printf("%d %ld %ld\n", PAIRS, counted_near(false), counted_near(true));
     return 0;
 }

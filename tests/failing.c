@@ -34,24 +34,30 @@ static ssize_t answer(const struct plan *plan) {
     return -1;
 }
 
-ssize_t read(int descriptor, void *bytes, size_t count) {
-    static ssize_t (*next)(int, void *, size_t);
+static ssize_t read_by(const char *name, int descriptor, void *bytes, size_t count) {
     static struct plan plan;
-    if (!next) {
+    static int known;
+    if (!known) {
         plan = (struct plan){number("READ_MOST", 0), number("READ_AT", 0), number("READ_TIMES", 1), number("READ_ERRNO", EIO), 0};
-        next = (ssize_t (*)(int, void *, size_t))dlsym(RTLD_NEXT, "read");
+        known = 1;
     }
     if (descriptor == 0 && fails(&plan, &count)) return answer(&plan);
-    return next(descriptor, bytes, count);
+    return ((ssize_t (*)(int, void *, size_t))dlsym(RTLD_NEXT, name))(descriptor, bytes, count);
 }
 
-ssize_t write(int descriptor, const void *bytes, size_t count) {
-    static ssize_t (*next)(int, const void *, size_t);
+static ssize_t write_by(const char *name, int descriptor, const void *bytes, size_t count) {
     static struct plan plan;
-    if (!next) {
+    static int known;
+    if (!known) {
         plan = (struct plan){number("WRITE_MOST", 0), number("WRITE_AT", 0), number("WRITE_TIMES", 1), number("WRITE_ERRNO", EIO), 0};
-        next = (ssize_t (*)(int, const void *, size_t))dlsym(RTLD_NEXT, "write");
+        known = 1;
     }
     if (descriptor == 1 && fails(&plan, &count)) return answer(&plan);
-    return next(descriptor, bytes, count);
+    return ((ssize_t (*)(int, const void *, size_t))dlsym(RTLD_NEXT, name))(descriptor, bytes, count);
 }
+
+/* the C library has each under two names, and a program may call either */
+ssize_t read(int descriptor, void *bytes, size_t count) { return read_by("read", descriptor, bytes, count); }
+ssize_t __read(int descriptor, void *bytes, size_t count) { return read_by("__read", descriptor, bytes, count); }
+ssize_t write(int descriptor, const void *bytes, size_t count) { return write_by("write", descriptor, bytes, count); }
+ssize_t __write(int descriptor, const void *bytes, size_t count) { return write_by("__write", descriptor, bytes, count); }

@@ -1,7 +1,6 @@
 """Programs and commands that are run where reading or writing fails, and what is wrong with how they ended. `failing.c` makes reads and writes
 short and lets any of them fail."""
 import collections, contextlib, fcntl, os, resource, subprocess, time
-import programs
 
 SHIM = os.path.abspath('target/failing.so')
 DONE, REFUSED, UNREAD, UNWRITTEN = '0123'       # what a program tells to descriptor 3
@@ -53,7 +52,7 @@ def faults(due, out, err, status, message='', told=DONE):
 
 def environment(shim, **more):
     """The variables of a run, with what the shim is to do."""
-    preload = {} if not shim else {'QEMU_SET_ENV': f'LD_PRELOAD={SHIM}'} if programs.emulator() else {'LD_PRELOAD': SHIM}
+    preload = {'LD_PRELOAD': SHIM} if shim else {}
     return {**os.environ, 'LC_ALL': 'C', **preload, **{key: str(value) for key, value in shim.items()}, **more}
 
 
@@ -76,7 +75,7 @@ class Run:
         told = fcntl.fcntl(mouth, fcntl.F_DUPFD_CLOEXEC, 10)
         os.close(mouth)
         self.data = stdin if isinstance(stdin, bytes) else None
-        self.process = subprocess.Popen([*programs.runner(), program.path, *(program.args if args is None else args)],
+        self.process = subprocess.Popen([program.path, *(program.args if args is None else args)],
                                         stdin=subprocess.PIPE if self.data is not None else stdin, stdout=stdout, stderr=subprocess.PIPE,
                                         env=environment(shim), preexec_fn=prepare, close_fds=False, restore_signals=False)
         os.close(told)

@@ -4,8 +4,7 @@ import os, re
 # sections whose every row has a rule with a number or an order
 RULES = ('Points', 'Ends', 'Signs', 'Crossing', 'Numbers that say no', 'Stored drawing', 'Listing', 'On the screen', 'R-9: one refusal fewer',
          'R-13: a smaller frame is enough', 'R-4: parallel arrowheads land on one spot', 'R-12: side of circle',
-         'R-5: the common divisor in another order of work', 'R-1: layer tag on every object', 'R-2: three groups', 'R-3: a shorter stored form, and the way back',
-         'R-8: hinge touches off by default', 'R-6: skipping pairs that stand apart')
+         'R-5: the common divisor in another order of work', 'R-1: layer tag on every object', 'R-2: three groups', 'R-3: a shorter stored form, and the way back')
 COLUMN = 'Noticed by'
 CASES = 'worked/stdout'  # each line begins with its case
 ESCAPED = '\\|'  # a bar that ends no cell

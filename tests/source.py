@@ -5,14 +5,14 @@ import collections, glob, os, re
 # at: where it begins in its file. body: the places of its first and last brace, None where it has none. lines: its first and last.
 Function = collections.namedtuple('Function', 'path name file method public clauses at body lines')
 
-CLAUSE = re.compile(r'(requires|ensures|ghost)\b\s*\w*\s*(?=\{)')
+CLAUSE = re.compile(r'(requires|ensures|ghost)\b\*?\s*\w*\s*(?=\{)')
 
 
 def plain(text):
-    """The text without comments and without what byte strings hold, each other letter at its place."""
+    """The text without comments and without what strings and letters hold, but for the "C" of `extern`, each other letter at its place."""
     def blank(found):
-        return re.sub(r'[^\n]', ' ', found[0])
-    return re.sub(r'//[^\n]*|b"(?:\\.|[^"\\])*"|b\'(?:\\.|[^\'\\])+\'', blank, text)
+        return found[0] if found[0] == '"C"' else re.sub(r'[^\n]', ' ', found[0])
+    return re.sub(r'//[^\n]*|b?"(?:\\.|[^"\\])*"|b?\'(?:\\.|[^\'\\])\'', blank, text)
 
 
 def closing(text, at):
@@ -58,24 +58,34 @@ def functions(crate):
 def crates(root):
     """The crates of crates.txt, each with what it stands on."""
     lines = [line.split('#')[0] for line in open(f'{root}/crates.txt')]
-    return {line.split(':')[0].strip(): line.split(':')[1].split() for line in lines if ':' in line}
+    return {line.split()[0].rstrip(':'): line.split(':')[1].split() for line in lines if ':' in line}
+
+
+def is_static(root, crate):
+    """Whether a crate is a static library, for C."""
+    return any(line.split('#')[0].split()[:2] == [crate, 'staticlib'] for line in open(f'{root}/crates.txt').read().replace(':', ' ').split('\n'))
 
 
 def is_library(root, crate):
-    return os.path.exists(f'{root}/crates/{crate}/src/lib.rt')
+    """Whether a crate is a library for other crates."""
+    return os.path.exists(f'{root}/crates/{crate}/src/lib.rt') and not is_static(root, crate)
+
+
+SYSTEM = r'\b(?:std\s*::\s*(?:io|fs|env)|HostRuntime)\b'   # what of std asks the system
 
 
 def of_the_programs(root, crate):
-    """Whether a library is the programs' alone: it stands on libraries of the kit, which assume what C functions do."""
-    known = crates(root)
-    return is_library(root, crate) and any(name not in known for name in known[crate])
+    """Whether a library is the programs' alone: it asks the system, so that what it stands on assumes what C functions do."""
+    return is_library(root, crate) and any(re.search(SYSTEM, plain(text)) for text in sources(f'{root}/crates/{crate}').values())
 
 
-def asking(crate, kit):
-    """The functions of a crate that call one of these libraries of the kit, themselves or by another of the crate."""
-    bodies = {one.path: (one.name, plain(text)[one.body[0]:one.body[1]]) for file, text in sources(crate).items()
-              for one in functions_of(file, text) if one.body}
-    calls, found = rf'\b(?:{"|".join(kit)})\s*::', set()
+def asking(crate):
+    """The functions of a crate that ask the system: their parameters or their bodies have what stands for it, or they call another that asks."""
+    texts = {file: plain(text) for file, text in sources(crate).items()}
+    bodies = {one.path: (one.name, text[one.at:one.body[1]]) for file, text in texts.items() for one in functions_of(file, text) if one.body}
+    brought = {name for text in texts.values() for item in re.findall(r'\buse\s+(std\s*::[^;]*);', text) if re.search(SYSTEM, item)
+               for name in re.findall(r'\w+', item)} - {'std', 'self', 'Result', 'Error'}
+    calls, found = '|'.join([SYSTEM, *(rf'\b{name}\b' for name in sorted(brought))]), set()
     while more := {path for path, (_, body) in bodies.items() if path not in found and re.search(calls, body)}:
         found |= more
         calls = '|'.join([calls, *(rf'\b{bodies[path][0]}\s*\(' for path in more)])

@@ -5,6 +5,8 @@ import edits, source
 EQUAL, SHUT_OUT = 'Two answers are equal', 'Shut out'
 SYSTEM = 'none: the system answers'     # for a theorem that two answers are equal, where a function of the programs' libraries asks the system
 CALLS = 'crates/refusals/specs/Calls.antt'
+NOTHING = ('', '⊤', '⊤ₛ')      # clauses that say nothing
+FOR_C = 'silvanelga_'          # how the names of the calls for C begin
 UNREFUSED = {  # these never refuse
     ('whole', 'sign'), ('whole', 'size'), ('whole', 'gcd'), ('whole', 'or_else'),
     ('sheet', 'Point/given'), ('sheet', 'Point/corner'), ('sheet', 'is_beyond'), ('sheet', 'are_equal'), ('sheet', 'lists/object_at'),
@@ -17,33 +19,40 @@ UNREFUSED = {  # these never refuse
 }
 
 
+def proved(root):
+    """What `rt ci` said of the proof of each crate; nothing of one that an earlier run proved, and kept."""
+    path = f'{root}/{edits.LOG}'
+    log = open(path, errors='replace').read() if os.path.exists(path) else ''
+    return {crate: '' for crate in re.findall(r'(?m)^rt: (\w+) is kept: ', log)} | dict(re.findall(r'(?ms)^== (\w+)\n(.*?)^rt: \1 proved$', log))
+
+
 def assumptions(root):
-    """What a crate takes without proof. The prover says so in its verdict (`foreign=`, `axioms=`) and refuses an `axiom` of its own language;
-    a library that stands on one of the kit's takes over what that assumes, without a word in its own verdict. It is the programs' then, and no
-    other library stands on it."""
-    crates = source.crates(root)
+    """What a crate takes without proof. The prover says so in its verdict (`foreign=`, `axioms=`) and refuses an `axiom` of its own language; `rt
+    ci` refuses C functions. A library that asks the system takes over what the kit's libraries assume, without a word in its own verdict. It is
+    the programs' then, and no other library stands on it."""
+    crates, said_of = source.crates(root), proved(root)
     for crate, below in crates.items():
-        folder, log = f'{root}/crates/{crate}', f'{root}/target/ci/{crate}.say'
-        verdicts = re.findall(r'(?m)^logic=proved .*$', open(log).read()) if os.path.exists(log) else []
-        if len(verdicts) != 1:
+        folder, said = f'{root}/crates/{crate}', said_of.get(crate)
+        verdicts = re.findall(r'(?m)^logic=proved .*$', said or '')
+        if said is None or said and len(verdicts) != 1:
             yield f'{crate}: its log has no verdict'
             continue
-        said = open(log).read()
-        counted, read = re.search(r'\bfunctions=(\d+)', verdicts[0])[1], sum(one.body is not None for one in source.functions(folder))
-        if int(counted) != read:
-            yield f'{crate}: {counted} functions are proved, and {read} are read in src/'
-        if 'foreign=' in verdicts[0] or re.search(r'(?m)^fn .*: assumed', said):
-            yield f'{crate}: it assumes contracts of C functions'
-        for taken in re.findall(r'(?m)^axioms (\w+):', said):
-            if taken in crates or source.is_library(root, crate) and not source.of_the_programs(root, crate):
+        for verdict in verdicts:
+            counted, read = re.search(r'\bfunctions=(\d+)', verdict)[1], sum(one.body is not None for one in source.functions(folder))
+            if int(counted) != read:
+                yield f'{crate}: {counted} functions are proved, and {read} are read in src/'
+            if 'foreign=' in verdict or re.search(r'(?m)^fn .*: assumed', said):
+                yield f'{crate}: it assumes contracts of C functions'
+        for taken in re.findall(r'(?m)^axioms (\w+): (?!none reached )', said):
+            if taken in crates or not os.path.exists(f'{folder}/src/main.rt') and not source.of_the_programs(root, crate):
                 yield f'{crate}: it rests on what {taken} assumes'
         for file, text in source.sources(folder).items():
             if re.search(r'\bextern\s+"C"\s*\{', source.plain(text)):
                 yield f'{crate}: {file} declares C functions'
-        for path in glob.glob(f'{folder}/**/*.antt', recursive=True):
+        for path in sorted(glob.glob(f'{folder}/specs/**/*.antt', recursive=True) + glob.glob(f'{folder}/proofs/**/*.antt', recursive=True)):
             if re.search(r'(?m)^\s*axiom\b|\bPrim\.Axiom\b', open(path).read()):
                 yield f'{crate}: {os.path.relpath(path, folder)} has an axiom'
-        if source.is_library(root, crate):
+        if not os.path.exists(f'{folder}/src/main.rt'):
             yield from (f'{crate}: it is a library, and stands on {name}, which is the programs\'' for name in below
                         if name in crates and source.of_the_programs(root, name))
 
@@ -58,8 +67,34 @@ def contracts(root):
         for one in source.public(folder) if source.is_library(root, crate) else []:
             if any(kind == 'requires' for kind, _ in one.clauses):
                 yield f'{crate}::{one.name} is public and asks something of its caller'
-            if not any(kind == 'ensures' and '⌜' in text for kind, text in one.clauses):
+            if not any(kind == 'ensures' and text.strip() not in NOTHING for kind, text in one.clauses):
                 yield f'{crate}::{one.name} is public and states nothing'
+
+
+def called(one, text):
+    """A function's parameters, result and contract, by its text."""
+    words = ' '.join(text[text.index('fn ', one.at):one.body[0]].split())
+    return words.replace('( ', '(').replace(', )', ')')  # however it is laid out
+
+
+def exports(root):
+    """What C calls is a static library, NAME_c over the library NAME: each of its functions is the call of the same name there, with the same
+    contract, and no call for C is left out."""
+    for crate in source.crates(root):
+        if not source.is_static(root, crate):
+            continue
+        over, folder = crate.removesuffix('_c'), f'{root}/crates/{crate}'
+        below = {one.name: called(one, source.sources(f'{root}/crates/{over}')[one.file]) for one in source.public(f'{root}/crates/{over}')}
+        here = source.functions(folder)
+        for one in here:
+            text = source.sources(folder)[one.file]
+            arguments = ', '.join(re.findall(r'(\w+)\s*:', text[text.index('(', one.at):source.closing(text, text.index('(', one.at))]))
+            if called(one, text) != below.get(one.name):
+                yield f'{crate}::{one.name} has not the contract of {over}::{one.name}'
+            elif text[one.body[0] + 1:one.body[1]].split() != f'{over}::{one.name}({arguments})'.split():
+                yield f'{crate}::{one.name} does more than call {over}::{one.name}'
+        yield from (f'{crate}: C cannot call {over}::{name}' for name in below
+                    if name.startswith(FOR_C) and name not in [one.name for one in here])
 
 
 def declared(text):
@@ -83,16 +118,17 @@ def contracts_named(folder, crate, module, word, seen=()):
         return set()
     text = open(path).read()
     seen = (*seen, (module, word))
-    within = rf'(?m)^use Rattle·{crate}·proofs\.proofs\.'
-    for place, alias in re.findall(within + r'(\S+) as (\S+)$', text):
-        if word == f'{alias}.Post' and place.endswith('.Reads'):
+    within = rf'(?m)^use Rattle\.{crate}\.'
+    for part, place, alias in re.findall(within + r'(proofs|specs\.contracts)\.(\S+) as (\S+)$', text):
+        if part == 'proofs' and place.endswith('.Reads') and word == f'{alias}.Post':
             return {place[:-len('.Reads')].replace('.', '/')}
-        if word == f'{alias}.clauses':
+        if part != 'proofs' and re.match(rf'{re.escape(alias)}\.clauses(\.|$)', word):
             return {place.replace('.', '/')}
-    for place, brought in re.findall(within + r'([^\s{]+)\.\{([^}]*)\}', text):
+    for place, brought in re.findall(within + r'proofs\.([^\s{]+)\.\{([^}]*)\}', text):
         if word in re.split(r',\s*', brought):
             return contracts_named(folder, crate, place.replace('.', '/'), word, seen)
-    _, whole = declared(text).get(word, ('', ''))
+    known = declared(text)
+    _, whole = known.get(word) or known.get(word.partition('.')[0], ('', ''))
     return {one for part in re.split(r'[\s(){},;]+', whole) for one in contracts_named(folder, crate, module, part, seen)}
 
 
@@ -105,10 +141,8 @@ def is_of_two_answers(folder, crate, theorem, function):
 
 
 def is_answered_by_the_system(root, crate, function):
-    """Whether a function is of a library of the programs and asks a library of the kit, so that nothing fixes its answer."""
-    crates = source.crates(root)
-    kit = [name for name in crates[crate] if name not in crates]
-    return source.of_the_programs(root, crate) and function in source.asking(f'{root}/crates/{crate}', kit)
+    """Whether a function is of a library of the programs and asks the system, so that nothing fixes its answer."""
+    return source.of_the_programs(root, crate) and function in source.asking(f'{root}/crates/{crate}')
 
 
 def rows(text):
@@ -156,11 +190,11 @@ def refusing(root):
     """Every public function that can refuse has a line in the record of all calls: it speaks of the function's own contract, by `Post` of its
     `Reads`, or by a definition of its crate's proofs/."""
     text = open(f'{root}/{CALLS}').read() if os.path.exists(f'{root}/{CALLS}') else ''
-    lines = ' '.join(kind for name, (kind, _) in declared(text).items() if name.startswith('of-'))
+    lines = ' '.join(kind for name, (kind, _) in declared(text).items() if name.startswith(('of-', 'of_')))
     spoken = {part for part in re.split(r'[\s(){},;]+', lines)}
-    found = {(crate, place.replace('.', '/')) for crate, place, alias in re.findall(r'(?m)^use Rattle·(\w+)\.proofs\.(\S+)\.Reads as (\S+)$', text)
+    found = {(crate, place.replace('.', '/')) for crate, place, alias in re.findall(r'(?m)^use Rattle\.(\w+)\.proofs\.(\S+)\.Reads as (\S+)$', text)
              if f'{alias}.Post' in spoken}
-    found |= {(crate, path) for crate, place, brought in re.findall(r'(?m)^use Rattle·(\w+)\.proofs\.([^\s{]+)\.\{([^}]*)\}', text)
+    found |= {(crate, path) for crate, place, brought in re.findall(r'(?m)^use Rattle\.(\w+)\.proofs\.([^\s{]+)\.\{([^}]*)\}', text)
               for word in re.split(r',\s*', brought) if word in spoken for path in contracts_named(f'{root}/crates/{crate}', crate, place.replace('.', '/'), word)}
     for crate in source.crates(root):
         yield from (f'{crate}::{one.name} has no line in {CALLS}' for one in (source.public(f'{root}/crates/{crate}') if source.is_library(root, crate) else [])
@@ -204,7 +238,7 @@ def paper(root):
         yield 'docs/PAPER.md: no row names anything'
 
 
-GUARDS = (assumptions, contracts, stated, refusing, promised, paper, edits.complaints)
+GUARDS = (assumptions, contracts, exports, stated, refusing, promised, paper, edits.complaints)
 
 
 def complaints(root):
