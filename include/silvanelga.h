@@ -6,7 +6,7 @@
    long as nobody writes them meanwhile. Any bytes, any index and any x and y are taken, and what is wrong with them is the answer. A null
    pointer is fine where the number of bytes is 0. A call uses less than a kilobyte of stack.
 
-   Link with the library that `rt staticlib viewer` writes, target/staticlib/libviewer.a; it needs no other. */
+   Link with the library that `./build viewer` writes, target/staticlib/libviewer.a; it needs no other. */
 #ifndef SILVANELGA_H
 #define SILVANELGA_H
 
