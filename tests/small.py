@@ -92,10 +92,12 @@ fn write_rest<W: Write>(out: &mut W, n: usize) -> usize {
     out.write(n)
 }
 
-pub fn hand_on(whole: bool, n: usize) -> usize
-    ensures { HandedOn whole n result }
-{
-    write_rest(n)
+impl<W: Write> Output<W> {
+    pub fn hand_on(whole: bool, n: usize) -> usize
+        ensures { HandedOn whole n result }
+    {
+        write_rest(n)
+    }
 }
 '''
 
@@ -114,9 +116,9 @@ FAULTS = {  # of each edit file what it is named, the function, the file, the ol
     'small/must-fail/late': (None, None, 'specs/Small.antt', 'start = 0', 'start = 1'),
     'small/must-fail/elsewhere': (None, None, 'src/lib.rt', 'result.place ≡ start', 'result.place ≡ elsewhere'),
     'stream/must-fail/faults-1': ('all-none', 'front', 'src/lib.rt', '    n', '    none'),
-    'stream/must-fail/faults-1-none-gone': ('none-gone', 'output/hand_on', 'src/output.rt', '    write_rest(n)', '    none'),
+    'stream/must-fail/faults-1-none-gone': ('none-gone', 'output/Output/hand_on', 'src/output.rt', '    write_rest(n)', '    none'),
     'stream/must-fail/faults-2': ('all-one', 'front', 'src/lib.rt', '    n', '    one'),
-    'stream/must-fail/faults-2-one-gone': ('one-gone', 'output/hand_on', 'src/output.rt', '    write_rest(n)', '    one'),
+    'stream/must-fail/faults-2-one-gone': ('one-gone', 'output/Output/hand_on', 'src/output.rt', '    write_rest(n)', '    one'),
 }
 
 
@@ -157,10 +159,11 @@ pub record Calls (P : ℕ → Type 0) : Type 0 where
 
 REFUSED = 'refused, as it must be: note: src/lib.rt:8:9: it is not proved that what the function ensures holds when it returns'
 SECTIONS = {  # what `rt ci` says of the proof of each crate
-    'small': 'fn small::twice: proved\nlogic=proved functions=5 sum=0 native=nat,char,string\n',
+    'small': 'fn small::twice: proved\nfn small::held: proved\nfn small::more::one: proved\nfn small::inner::other: proved\nfn small::inner::sum: proved\n'
+             'logic=proved functions=5 sum=0 native=nat,char,string\n',
     'small_c': 'fn small_c::twice: proved\naxioms libc: none reached of the 128 declared\nlogic=proved functions=1 target=any sum=0\n',
     'refusals': 'logic=proved functions=0 sum=0\n',
-    'stream': 'fn stream::hand_on: proved\nlogic=proved functions=3 sum=0\n',
+    'stream': 'fn stream::front: proved\nfn stream::output::write_rest: proved\nfn stream::output::Output::hand_on: proved\nlogic=proved functions=3 sum=0\n',
     'tell': 'fn tell::main: proved\naxioms libc: libc::write (1 of the 128 declared)\nlogic=proved functions=1 axioms=1 target=any sum=0\n',
 }
 SECTIONS = {crate: f'== {crate}\n{said}rt: {crate} proved\n' for crate, said in SECTIONS.items()}

@@ -25,11 +25,22 @@ def closing(text, at):
     raise ValueError(f'nothing closes the bracket at {at}')
 
 
+def kind_of(head):
+    """The folder of an `impl`, by what stands between `impl` and its brace: a type's name, or of a trait's `impl` the type's, the trait's and what
+    the trait is of, as `I64FromRefusal` for `From<Refusal> for i64`. Lifetimes and the parameters of the `impl` itself have no part in it."""
+    head = re.sub(r"'\w+", '', head)
+    own = re.match(r'\s*<([^>]*)>', head)
+    trait, _, kind = head[own.end() if own else 0:].rpartition(' for ')
+    taken = [part.split(':')[0].strip() for part in own[1].split(',')] if own else []
+    names = [name for part in (kind, trait) for name in re.findall(r'(?:\w+::)*(\w+)', part) if name not in taken]
+    return ''.join(name[0].upper() + name[1:] for name in names)
+
+
 def functions_of(file, text):
     """The functions of one file of src/, in order."""
     module = [] if file in ('src/lib.rt', 'src/main.rt') else file[len('src/'):-len('.rt')].split('/')
     text = plain(text)
-    kinds = [(found[1], found.start(), closing(text, found.end() - 1)) for found in re.finditer(r'\bimpl\s+(\w+)[^{]*\{', text)]
+    kinds = [(kind_of(found[1]), found.start(), closing(text, found.end() - 1)) for found in re.finditer(r'(?m)^impl\b([^{]*)\{', text)]
     for found in re.finditer(r'(?:\b(pub(?:\s*\([^)]*\))?)\s+)?(?:extern\s+"C"\s+)?\bfn\s+(\w+)[^(]*\(', text):
         at = closing(text, found.end() - 1) + 1
         while not (text[at] in '{;' or CLAUSE.match(text, at)):

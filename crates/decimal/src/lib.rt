@@ -12,12 +12,9 @@ use whole::size;
 pub fn put_text(text: &[u8], out: &mut [u8], at: usize) -> usize
     ensures { Wrote out.old out.new at result text.now }
 {
-    let mut i = 0;
     let mut next = at;
-    while i < text.len() {
-        let b = text[i];
+    for &b in text {
         next = put_byte(b, out, next);
-        i += 1;
     }
     next
 }
@@ -71,12 +68,9 @@ pub fn put_field(n: i64, out: &mut [u8], at: usize) -> usize
 pub fn put_fields(list: &[i64], out: &mut [u8], at: usize) -> usize
     ensures { Wrote out.old out.new at result (numbers list.now) }
 {
-    let mut i = 0;
     let mut next = at;
-    while i < list.len() {
-        let n = list[i];
+    for &n in list {
         next = put_field(n, out, next);
-        i += 1;
     }
     next
 }

@@ -2,11 +2,12 @@
 --   kept-swapped         which of the two comes first
 --   kept-other-way       the arrow of a segment or a line that comes first; so that of the second too, by `kept-swapped`
 -- Tags are in the kernel's `proofs/Tags`.
-use Rattle.std.specs.Prelude.{◌≡◌, Bool, ◌⊎◌, ◌∷◌, pos}
+use Rattle.std.specs.Prelude.{◌≡◌, Bool, ◌⊎◌, ◌∷◌, pos, Result}
 use Rattle.std.proofs.Common.{sym, ◌∙◌, ap}
 use contract.Lifetimes.{Lfts}
 use Rattle.sheet.specs.declared.Object.{Object}
 use Rattle.sheet.specs.declared.Crossing.{Crossing}
+use Rattle.sheet.specs.declared.refusal.Refusal.{Refusal}
 use Rattle.sheet.specs.Refusal.{Accepted}
 use Rattle.sheet.specs.Answers.{meeting_numbers}
 use Rattle.sheet.specs.AnswersLaws.{accepted, crossing-one}
@@ -18,18 +19,18 @@ use Rattle.cut.proofs.Swap.{kept-swap, kept-turned}
 use Rattle.kernel.proofs.crossing.cross_kept.Reads as cross-kept
 
 -- an answer for two objects
-abbrev Answered : Lfts 0 → Bool → Object → Object → Crossing → Type 0
+abbrev Answered : Lfts 0 → Bool → Object → Object → Result Crossing Refusal → Type 0
 Answered κs joints a b r = cross-kept.Post κs (a, (b, (joints, tt))) r (a, (b, (joints, tt)))
 
 module _ (κs : Lfts 0) (joints : Bool) where
   -- two pairs of accepted objects of which the same is kept
   alike : {a b c d : Object} → Accepted a → Accepted b → Accepted c → Accepted d → kept joints a b ≡ kept joints c d
-      → (r s : Crossing) → Answered κs joints a b r → Answered κs joints c d s → r ≡ s
+      → (r s : Result Crossing Refusal) → Answered κs joints a b r → Answered κs joints c d s → r ≡ s
   alike h i j k e r s p q =
       crossing-one r s
       (p ∙ accepted _ (taken-cross h i) ∙ ap (λ (m : Meeting). pos 0 ∷ meeting_numbers m) e ∙ sym (q ∙ accepted _ (taken-cross j k)))
 
-  module _ {a b : Object} (h : Accepted a) (i : Accepted b) (r s : Crossing) where
+  module _ {a b : Object} (h : Accepted a) (i : Accepted b) (r s : Result Crossing Refusal) where
     pub kept-swapped : Answered κs joints a b r → Answered κs joints b a s → r ≡ s
     kept-swapped = alike h i i h (kept-swap h i joints) r s
 

@@ -7,6 +7,8 @@
 --   m_e, lengths, full-flag  how far d goes that way, by locals ox, oy, dx, dy, and the code's test of that against w
 --   place, pair, way, ahead    a given point as it is handed on; p and q of an object as locals 0 to 3, and the direction from p to q
 --   swapped, reversed       p and q changed over, and the direction then
+--   size-fits               what `abs` asks of dx and dy
+--   signed-k                the bounds of the sign of dx or dy, as `sign` gives it, and of k
 use mathlib.Core.Path.{◌≡◌, sym, ◌∙◌, ap, ap₂}
 use mathlib.Core.Bool.{Bool, true, false, cond}
 use mathlib.Core.List.{[], ◌∷◌}
@@ -18,6 +20,9 @@ use mir.Val.{SFits, of_z}
 use Rattle.whole.specs.Laws.{eq-of-sub}
 use Rattle.whole.specs.Ring.{Expr, var, ◌⊕◌, ◌⊖◌, ◌⊗◌, ⊝◌, ring}
 use Rattle.whole.specs.Flat.{All, none, ◌also◌, mach, raw, need, gives, raw-is, held, back, within-out}
+use Rattle.whole.specs.Within.{Within}
+use Rattle.whole.specs.Sign.{sgn}
+use Rattle.whole.specs.Bound.{fits64, w-is, w-neg, w-sgn}
 use Rattle.whole.specs.Flag.{eq_z}
 use Rattle.whole.specs.Tests.{out, eq_flag}
 use Rattle.sheet.specs.declared.Point.{Point}
@@ -30,6 +35,12 @@ use Rattle.kernel.specs.Bounds.{Direction, Ahead, Out}
 use Rattle.kernel.specs.Forms.{is_flat, flat-form, steep-form}
 use Rattle.kernel.specs.Stretches.{on_by, end_by}
 use Rattle.kernel.proofs.Eight.{dx_e, dy_e}
+
+pub signed-k : {r k : ℤ} (s : ℤ) → r ≡ sgn s → Within 16000000 k → All (1 ∷ 16000000 ∷ []) (r ∷ k ∷ [])
+signed-k s e h = w-is e (w-sgn _) also h also none
+
+pub size-fits : {z : ℤ} → Within 4000 z → SFits w64 (neg_ℤ (out z))
+size-fits h = fits64 (w-neg (within-out h tt)) tt
 
 -- dx py - dy px
 abbrev pub k_e : Expr

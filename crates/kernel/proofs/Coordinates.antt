@@ -1,19 +1,16 @@
 -- The coordinates of a point as they are handed on. To cite:
 --   x-of, y_of, coordinate-out   each of them, and out of locals
 --   along-out                    the order of two coordinates is that of the numbers
---   point-out                    the point
 --   lead_is                      the sign that `lead` gives, by numbers equal to those that it was given
 use mathlib.Core.Path.{◌≡◌, ◌∙◌, ap₂}
 use lib.IntN.{ℤ, ◌-ℤ◌, ◌*ℤ◌}
 use Rattle.whole.specs.Sign.{sgn}
 use Rattle.whole.specs.Choice.{or_else}
 use Rattle.whole.specs.Flat.{back, within-out}
-use Rattle.whole.specs.Bound.{fits64}
 use Rattle.whole.specs.Tests.{out, Fit, gave}
 use Rattle.sheet.specs.declared.Point.{Point}
 use Rattle.sheet.specs.PointSizes.{PointSizes}
 use Rattle.kernel.specs.Bounds.{CoordinateBounds}
-use Rattle.kernel.proofs.Handed.{by-five, point_of, point_out}
 
 module _ {p : Point} (s : PointSizes p) where
   pub x-of : CoordinateBounds p.mx p.nx p.w
@@ -21,11 +18,6 @@ module _ {p : Point} (s : PointSizes p) where
 
   pub y_of : CoordinateBounds p.my p.ny p.w
   y_of = record { bm = s.in_my; bn = s.in_ny; bw = s.in-w.at_most }
-
-  pub point-out : point_out p ≡ p
-  point-out =
-      by-five
-      (fits64 s.in_mx tt) (fits64 s.in_nx tt) (fits64 s.in_my tt) (fits64 s.in_ny tt) (fits64 s.in-w.at_most tt) point_of
 
 pub coordinate-out : {m n w : ℤ} → CoordinateBounds m n w → CoordinateBounds (out m) (out n) (out w)
 coordinate-out c = record {

@@ -4,10 +4,8 @@
 --   near-out, apart_out     what an inner function asks, of the numbers as they come out of locals
 --   stretch-out               the stretch of numbers out of locals
 --   times-sign-is, times-sign-size  what `times_sign` gives, by numbers equal to those that it was given; of a number with itself
---   say                     what an accepted crossing says
 use mathlib.Core.Path.{◌≡◌, sym, ◌∙◌}
-use mathlib.Core.List.{List, ◌∷◌}
-use lib.IntN.{ℤ, pos, ◌-ℤ◌, ◌*ℤ◌}
+use lib.IntN.{ℤ, ◌-ℤ◌, ◌*ℤ◌}
 use mir.Syntax.{w64}
 use mir.Val.{SFits}
 use Rattle.whole.specs.Sign.{sgn}
@@ -16,8 +14,6 @@ use Rattle.whole.specs.Ring.{Expr, var, ◌⊖◌, ◌⊗◌}
 use Rattle.whole.specs.Flat.{none, ◌also◌, gives, held}
 use Rattle.whole.specs.Tests.{out, Fit, gave}
 use Rattle.sheet.specs.Points.{size}
-use Rattle.sheet.specs.Crossing.{Meeting}
-use Rattle.sheet.specs.Answers.{meeting_numbers}
 use Rattle.kernel.specs.Bounds.{FourPoints, Apart}
 use Rattle.kernel.specs.Stretches.{stretch}
 use Rattle.kernel.proofs.Handed.{by-five}
@@ -42,9 +38,6 @@ ey_e = var 5 ⊖ var 1
 
 abbrev pub across_e : Expr
 across_e = dx_e ⊗ fy_e ⊖ dy_e ⊗ fx_e
-
-abbrev pub say : Meeting → List ℤ
-say m = pos 0 ∷ meeting_numbers m
 
 module _ {px py qx qy rx ry sx sy : ℤ} where
   pub near-out : FourPoints px py qx qy rx ry sx sy → FourPoints (out px) (out py) (out qx) (out qy) (out rx) (out ry) (out sx) (out sy)

@@ -6,12 +6,13 @@ use mathlib.Core.Bool.{Bool}
 use mathlib.Core.List.{[], ◌∷◌, ◌++◌}
 use lib.IntN.{ℤ}
 use contract.Lifetimes.{Lfts}
+use Rattle.std.specs.Prelude.{Result}
 use Rattle.whole.specs.Choice.{or_else}
 use Rattle.sheet.specs.declared.Object.{Object}
 use Rattle.sheet.specs.declared.Point.{Point}
 use Rattle.sheet.specs.declared.Ends.{Ends}
-use Rattle.sheet.specs.declared.Signed.{Signed}
 use Rattle.sheet.specs.declared.Crossing.{Crossing}
+use Rattle.sheet.specs.declared.refusal.Refusal.{Refusal}
 use Rattle.sheet.specs.Refusal.{object_refusal, Accepted}
 use Rattle.sheet.specs.Points.{numbers, point_refusal}
 use Rattle.sheet.specs.Signs.{side_sign_refusal}
@@ -30,20 +31,20 @@ module _ (κs : Lfts 0) (t : ℤ) (o : Object) (a : Accepted o) (b : Accepted (t
   refusal-same : object_refusal (tagged t o) ≡ object_refusal o
   refusal-same = b.accepted ∙ sym a.accepted
 
-  pub ends_same : (r s : Ends) → ends_of.Post κs (o, tt) r (o, tt) → ends_of.Post κs (tagged t o, tt) s (tagged t o, tt) → r ≡ s
+  pub ends_same : (r s : Result Ends Refusal) → ends_of.Post κs (o, tt) r (o, tt) → ends_of.Post κs (tagged t o, tt) s (tagged t o, tt) → r ≡ s
   ends_same r s p q =
       let e = ends-tag t o in
       ends-one r s (p ∙ sym (q ∙ (λ i. answer (refusal-same i) (numbers (e.0 i) ++ numbers (e.1 i)))))
 
   pub side_same :
-      (x : Point) (r s : Signed)
+      (x : Point) (r s : Result ℤ Refusal)
       → side-of.Post κs (o, (x, tt)) r (o, (x, tt)) → side-of.Post κs (tagged t o, (x, tt)) s (tagged t o, (x, tt)) → r ≡ s
   unfolding side_sign_refusal
   side_same x r s p q =
       signed-one r s (p ∙ sym (q ∙ (λ i. answer (or_else (refusal-same i) (point_refusal x)) (side-tag t o x i ∷ []))))
 
   pub cross-same :
-      (c : Object) (r s : Crossing)
+      (c : Object) (r s : Result Crossing Refusal)
       → cross.Post κs (o, (c, tt)) r (o, (c, tt)) → cross.Post κs (tagged t o, (c, tt)) s (tagged t o, (c, tt)) → r ≡ s
   unfolding crossing_refusal
   cross-same c r s p q =
@@ -51,14 +52,14 @@ module _ (κs : Lfts 0) (t : ℤ) (o : Object) (a : Accepted o) (b : Accepted (t
       (p ∙ sym (q ∙ (λ i. answer (or_else (refusal-same i) (object_refusal c)) (meeting_numbers (crossing-tag t o c i)))))
 
   pub cross-same-second :
-      (c : Object) (r s : Crossing)
+      (c : Object) (r s : Result Crossing Refusal)
       → cross.Post κs (c, (o, tt)) r (c, (o, tt)) → cross.Post κs (c, (tagged t o, tt)) s (c, (tagged t o, tt)) → r ≡ s
   unfolding crossing_refusal
   cross-same-second c r s p q =
       crossing-one r s
       (p ∙ sym (q ∙ (λ i. answer (or_else (object_refusal c) (refusal-same i)) (meeting_numbers (crossing-tag-second t c o i)))))
 
-  module _ (joints : Bool) (c : Object) (r s : Crossing) where
+  module _ (joints : Bool) (c : Object) (r s : Result Crossing Refusal) where
     pub kept_same :
         cross-kept.Post κs (o, (c, (joints, tt))) r (o, (c, (joints, tt)))
         → cross-kept.Post κs (tagged t o, (c, (joints, tt))) s (tagged t o, (c, (joints, tt))) → r ≡ s

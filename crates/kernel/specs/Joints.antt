@@ -58,7 +58,6 @@ module _ (joints : Bool) (ka px py qx qy kb rx ry sx sy : ℤ) where
   touch_left crossing.Nothing = crossing.Nothing
   touch_left (crossing.Once e) = cond (not joints && touches ka px py qx qy kb rx ry sx sy (point e)) crossing.Nothing (crossing.Once e)
   touch_left crossing.Many = crossing.Many
-  touch_left (crossing.Refused n) = crossing.Refused n
 
   abbrev pub skew_kept : Meeting
   skew_kept = left_out joints (ends_meet ka A kb B) (skew A B)
@@ -97,4 +96,3 @@ abbrev pub corner_left : Bool → Crossing → Crossing
 corner_left joints crossing.Nothing = crossing.Nothing
 corner_left joints (crossing.Once e) = cond (not joints && corner_at e) crossing.Nothing (crossing.Once e)
 corner_left joints crossing.Many = crossing.Many
-corner_left joints (crossing.Refused n) = crossing.Refused n

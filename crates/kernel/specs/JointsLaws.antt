@@ -28,8 +28,8 @@ use Rattle.sheet.proofs.CrossingLaws.{meeting-standard}
 use Rattle.sheet.specs.Joint.{is_same_point, is_end, joint_by, joint, kept}
 use Rattle.sheet.proofs.JointLaws.{same_point}
 use Rattle.sheet.specs.Flags.{flags}
-use Rattle.sheet.specs.Answers.{meeting_numbers, crossing_says}
-use Rattle.sheet.specs.AnswersLaws.{crossing-one, crossing-says}
+use Rattle.sheet.specs.Answers.{meeting_numbers, crossing_numbers}
+use Rattle.sheet.specs.AnswersLaws.{share-one, crossing-says}
 use Rattle.sheet.specs.Meetings.{crossing_by}
 use Rattle.kernel.specs.Bounds.{Numbers}
 use Rattle.kernel.specs.Kinds.{a-shape, a_pair}
@@ -220,27 +220,27 @@ module _ (joints : Bool) (ka px py qx qy kb rx ry sx sy : ℤ) where
 -- ---- answers
 
 -- an answer that says m is that of m
-said-by : (F : Crossing → Crossing) (m : Meeting) {o : List ℤ} → crossing_says (F (crossing_by m)) ≡ o
-    → (r : Crossing) → crossing_says r ≡ pos 0 ∷ meeting_numbers m → crossing_says (F r) ≡ o
-said-by F m h r e = ap (λ (r : Crossing). crossing_says (F r)) (crossing-one r (crossing_by m) (e ∙ sym (crossing-says m))) ∙ h
+said-by : (F : Crossing → Crossing) (m : Meeting) {o : List ℤ} → crossing_numbers (F (crossing_by m)) ≡ o
+    → (r : Crossing) → crossing_numbers r ≡ meeting_numbers m → crossing_numbers (F r) ≡ o
+said-by F m h r e = ap (λ (r : Crossing). crossing_numbers (F r)) (share-one r (crossing_by m) (e ∙ sym (crossing-says m))) ∙ h
 
 -- one point, as it is answered
-one-said : (e : Point) (t : Bool) → crossing_says (cond t crossing.Nothing (crossing.Once e)) ≡ pos 0 ∷ meeting_numbers (cond t none (point e))
+one-said : (e : Point) (t : Bool) → crossing_numbers (cond t crossing.Nothing (crossing.Once e)) ≡ meeting_numbers (cond t none (point e))
 one-said e true = refl
 one-said e false = refl
 
-pub none_said : (joints ends : Bool) → pos 0 ∷ pos 0 ∷ [] ≡ pos 0 ∷ meeting_numbers (left_out joints ends none)
-none_said joints ends = ap (λ (m : Meeting). pos 0 ∷ meeting_numbers m) (sym (left-none joints ends))
+pub none_said : (joints ends : Bool) → pos 0 ∷ [] ≡ meeting_numbers (left_out joints ends none)
+none_said joints ends = ap meeting_numbers (sym (left-none joints ends))
 
-many-said : (joints : Bool) → pos 0 ∷ pos 2 ∷ [] ≡ pos 0 ∷ meeting_numbers (left_out joints false many)
-many-said joints = ap (λ (t : Bool). pos 0 ∷ meeting_numbers (cond t none many)) (sym (and-false (not joints)))
+many-said : (joints : Bool) → pos 2 ∷ [] ≡ meeting_numbers (left_out joints false many)
+many-said joints = ap (λ (t : Bool). meeting_numbers (cond t none many)) (sym (and-false (not joints)))
 
 module _ (joints : Bool) where
-  pub corner-said : (m : Meeting) (r : Crossing) → crossing_says r ≡ pos 0 ∷ meeting_numbers m
-      → crossing_says (corner_left joints r) ≡ pos 0 ∷ meeting_numbers (corners_left joints m)
+  pub corner-said : (m : Meeting) (r : Crossing) → crossing_numbers r ≡ meeting_numbers m
+      → crossing_numbers (corner_left joints r) ≡ meeting_numbers (corners_left joints m)
   corner-said m = said-by (corner_left joints) m (go m)
     where
-      go : (m : Meeting) → crossing_says (corner_left joints (crossing_by m)) ≡ pos 0 ∷ meeting_numbers (corners_left joints m)
+      go : (m : Meeting) → crossing_numbers (corner_left joints (crossing_by m)) ≡ meeting_numbers (corners_left joints m)
       go none = none_said joints false
       go (point e) = one-said e (not joints && corner_at e)
       go many = many-said joints
@@ -249,11 +249,11 @@ module _ (joints : Bool) where
     abbrev ends : Meeting → Bool
     ends m = touches ka px py qx qy kb rx ry sx sy m
 
-    pub touch-said : (m : Meeting) (r : Crossing) → crossing_says r ≡ pos 0 ∷ meeting_numbers m
-        → crossing_says (touch_left joints ka px py qx qy kb rx ry sx sy r) ≡ pos 0 ∷ meeting_numbers (left_out joints (ends m) m)
+    pub touch-said : (m : Meeting) (r : Crossing) → crossing_numbers r ≡ meeting_numbers m
+        → crossing_numbers (touch_left joints ka px py qx qy kb rx ry sx sy r) ≡ meeting_numbers (left_out joints (ends m) m)
     touch-said m = said-by (touch_left joints ka px py qx qy kb rx ry sx sy) m (go m)
       where
-        go : (m : Meeting) → crossing_says (touch_left joints ka px py qx qy kb rx ry sx sy (crossing_by m)) ≡ pos 0 ∷ meeting_numbers (left_out joints (ends m) m)
+        go : (m : Meeting) → crossing_numbers (touch_left joints ka px py qx qy kb rx ry sx sy (crossing_by m)) ≡ meeting_numbers (left_out joints (ends m) m)
         go none = none_said joints false
         go (point e) = one-said e (not joints && ends (point e))
         go many = many-said joints

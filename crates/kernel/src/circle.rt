@@ -10,6 +10,7 @@ ghost use Rattle.std.specs.Prelude.{◌≡◌, [], ◌∷◌};
 ghost use Rattle.whole.specs.Sign.{sgn};
 ghost use Rattle.sheet.specs.Figure.{vec};
 ghost use Rattle.sheet.specs.Points.{point_refusal};
+ghost use Rattle.sheet.specs.Refused.{refused_by};
 ghost use Rattle.sheet.specs.Answers.{answer, signed_says};
 ghost use Rattle.sheet.specs.Circle.{side_of_circle, given_refusal, circle_refusal};
 ghost use Rattle.sheet.specs.CirclePoints.{Given, Fourth};
@@ -17,10 +18,10 @@ ghost use Rattle.sheet.specs.CircleForms.{given_form, frame_form};
 ghost use Rattle.kernel.specs.Bounds.{ThreePoints, FourPoints, CoordinateBounds};
 
 use crate::lead::lead;
-use crate::points::{check_given, check_point, check_standard};
+use crate::points::{check_point, is_given, is_standard};
 use crate::signs::pair_side;
-use sheet::refusal::NOT_GIVEN;
-use sheet::{Point, Signed};
+use sheet::Point;
+use sheet::refusal::Refusal;
 
 // Of four given points.
 fn given_circle(px: i64, py: i64, qx: i64, qy: i64, sx: i64, sy: i64, ux: i64, uy: i64) -> i64
@@ -43,21 +44,9 @@ fn given_circle(px: i64, py: i64, qx: i64, qy: i64, sx: i64, sy: i64, ux: i64, u
 }
 
 // Of three given points and a frame point.
-fn frame_circle(
-    px: i64,
-    py: i64,
-    qx: i64,
-    qy: i64,
-    sx: i64,
-    sy: i64,
-    mx: i64,
-    nx: i64,
-    my: i64,
-    ny: i64,
-    w: i64,
-) -> i64
-    requires { ThreePoints px py qx qy sx sy × CoordinateBounds mx nx w × CoordinateBounds my ny w }
-    ensures { result ≡ frame_form (vec px py) (vec qx qy) (vec sx sy) (record { mx = mx; nx = nx; my = my; ny = ny; w = w }) }
+fn frame_circle(px: i64, py: i64, qx: i64, qy: i64, sx: i64, sy: i64, u: Point) -> i64
+    requires { ThreePoints px py qx qy sx sy × CoordinateBounds u.mx u.nx u.w × CoordinateBounds u.my u.ny u.w }
+    ensures { result ≡ frame_form (vec px py) (vec qx qy) (vec sx sy) u }
 {
     let ax = qx - px;
     let ay = qy - py;
@@ -65,7 +54,7 @@ fn frame_circle(
     let by = sy - py;
     let turn_p = ax * by - ay * bx;
     let inner_p = ax * bx + ay * by;
-    let seen = whole::sign(inner_p) * pair_side(qx, qy, sx, sy, mx, nx, my, ny, w);
+    let seen = whole::sign(inner_p) * pair_side(qx, qy, sx, sy, u);
     lead(turn_p, -seen)
 }
 
@@ -73,53 +62,53 @@ fn circle_of(p: Point, q: Point, s: Point, u: Point) -> i64
     requires { Given p × Given q × Given s × Fourth u }
     ensures { result ≡ side_of_circle p q s u }
 {
-    if check_given(u) {
+    if is_given(u) {
         return given_circle(p.nx, p.ny, q.nx, q.ny, s.nx, s.ny, u.nx, u.ny);
     }
-    frame_circle(
-        p.nx, p.ny, q.nx, q.ny, s.nx, s.ny, u.mx, u.nx, u.my, u.ny, u.w,
-    )
+    frame_circle(p.nx, p.ny, q.nx, q.ny, s.nx, s.ny, u)
 }
 
-// 21 where one of the first three is no given point, or the fourth is a standard point that is none.
-fn given_refusal(p: Point, q: Point, s: Point, u: Point) -> i64
-    ensures { result ≡ given_refusal p q s u }
+// Four points are refused by 21 where one of the first three is no given point, or the fourth is a standard point that is none.
+fn check_given(p: Point, q: Point, s: Point, u: Point) -> Result<(), Refusal>
+    ensures { refused_by result ≡ given_refusal p q s u }
 {
-    let fourth = check_given(u) | !check_standard(u);
-    if check_given(p) & check_given(q) & check_given(s) & fourth {
-        return 0;
+    let fourth = is_given(u) | !is_standard(u);
+    if is_given(p) & is_given(q) & is_given(s) & fourth {
+        return Ok(());
     }
-    NOT_GIVEN
+    Err(Refusal::NotGiven)
 }
 
-// 0 for a point, 5 for five numbers that are none. A given point is one, and its divisor has not to be found.
-fn point_refusal(p: Point) -> i64
-    ensures { result ≡ point_refusal p }
+// As `check_point`, but of a given point, which is one, the divisor has not to be found.
+fn check_one(p: Point) -> Result<(), Refusal>
+    ensures { refused_by result ≡ point_refusal p }
 {
-    if check_given(p) {
-        return 0;
+    if is_given(p) {
+        return Ok(());
     }
     check_point(p)
 }
 
-fn circle_refusal(p: Point, q: Point, s: Point, u: Point) -> i64
-    ensures { result ≡ circle_refusal p q s u }
+// 5 for each in turn, then 21. Four given points, which most are, need one test alone.
+fn check_circle(p: Point, q: Point, s: Point, u: Point) -> Result<(), Refusal>
+    ensures { refused_by result ≡ circle_refusal p q s u }
 {
-    let fourth = point_refusal(u);
-    let given = given_refusal(p, q, s, u);
-    let late = whole::or_else(point_refusal(s), whole::or_else(fourth, given));
-    whole::or_else(point_refusal(p), whole::or_else(point_refusal(q), late))
+    if is_given(p) & is_given(q) & is_given(s) & is_given(u) {
+        return Ok(());
+    }
+    check_one(p)?;
+    check_one(q)?;
+    check_one(s)?;
+    check_one(u)?;
+    check_given(p, q, s, u)
 }
 
 // The side of the circle through three given points that a fourth is on, which is a given point or on the frame. Where the three turn left: 1
 // outside, 0 on the circle, -1 inside; where they turn right: -1 outside, 0 on it, 1 inside. Functions of this name elsewhere may have the
 // other sign. Where the three are on one line it is the determinant's sign.
-pub fn side_of_circle(p: Point, q: Point, s: Point, u: Point) -> Signed
+pub fn side_of_circle(p: Point, q: Point, s: Point, u: Point) -> Result<i64, Refusal>
     ensures { signed_says result ≡ answer (circle_refusal p q s u) (side_of_circle p q s u ∷ []) }
 {
-    let refusal = circle_refusal(p, q, s, u);
-    if refusal != 0 {
-        return Signed::Refused(refusal);
-    }
-    Signed::Sign(circle_of(p, q, s, u))
+    check_circle(p, q, s, u)?;
+    Ok(circle_of(p, q, s, u))
 }

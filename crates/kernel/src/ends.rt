@@ -1,14 +1,15 @@
 // The two ends of an object, in its direction.
-ghost use Rattle.std.specs.Prelude.{◌≡◌, ◌∷◌, ◌++◌, pos};
+ghost use Rattle.std.specs.Prelude.{◌≡◌, ◌++◌};
 ghost use Rattle.sheet.specs.Figure.{side_of, figure_of};
 ghost use Rattle.sheet.specs.Refusal.{object_refusal};
 ghost use Rattle.sheet.specs.Points.{numbers};
 ghost use Rattle.sheet.specs.Ends.{begins, first_of, last_of, first_end, last_end};
-ghost use Rattle.sheet.specs.Answers.{answer, ends_say};
+ghost use Rattle.sheet.specs.Answers.{answer, ends_numbers, ends_say};
 ghost use Rattle.kernel.specs.Bounds.{Numbers};
 
 use crate::far::far_end;
-use sheet::{Ends, Object, Point};
+use sheet::refusal::Refusal;
+use sheet::{Ends, Object, Point, check_object};
 
 // The corner where side n begins.
 fn side_begins(n: i64) -> Point
@@ -60,20 +61,17 @@ fn last_end(kind: i64, px: i64, py: i64, qx: i64, qy: i64) -> Point
 
 fn both_ends(kind: i64, px: i64, py: i64, qx: i64, qy: i64) -> Ends
     requires { Numbers kind px py qx qy }
-    ensures { ends_say result ≡ pos 0 ∷ (numbers (first_of (figure_of kind px py qx qy)) ++ numbers (last_of (figure_of kind px py qx qy))) }
+    ensures { ends_numbers result ≡ numbers (first_of (figure_of kind px py qx qy)) ++ numbers (last_of (figure_of kind px py qx qy)) }
 {
     let first = first_end(kind, px, py, qx, qy);
     let last = last_end(kind, px, py, qx, qy);
-    Ends::Both(first, last)
+    Ends { first, last }
 }
 
 // The two ends of an object, first the one that its arrow comes from.
-pub fn ends_of(o: Object) -> Ends
+pub fn ends_of(o: Object) -> Result<Ends, Refusal>
     ensures { ends_say result ≡ answer (object_refusal o) (numbers (first_end o) ++ numbers (last_end o)) }
 {
-    let refusal = sheet::object_refusal(o);
-    if refusal != 0 {
-        return Ends::Refused(refusal);
-    }
-    both_ends(o.kind, o.px, o.py, o.qx, o.qy)
+    check_object(o)?;
+    Ok(both_ends(o.kind, o.px, o.py, o.qx, o.qy))
 }

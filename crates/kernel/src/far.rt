@@ -1,6 +1,5 @@
 // The far end of the line through p in the direction d: where it leaves the frame.
 ghost use Rattle.std.specs.Prelude.{◌≡◌, pos, ◌<ℤ◌};
-ghost use Rattle.whole.specs.Within.{Within};
 ghost use Rattle.sheet.specs.Figure.{vec};
 ghost use Rattle.sheet.specs.Ends.{flat, steep, far_end};
 ghost use Rattle.sheet.specs.Points.{size, divided};
@@ -10,24 +9,13 @@ ghost use Rattle.kernel.specs.Forms.{is_flat};
 use crate::divide::divide;
 use sheet::Point;
 
-// |z|
-pub fn abs(z: i64) -> i64
-    requires { Within 4000 z }
-    ensures { result ≡ size z }
-{
-    if z < 0 {
-        return -z;
-    }
-    z
-}
-
 // The end is on the left or the right side: |dx| is the larger, or both are equal and sx sy k is 0 or less.
 pub fn is_flat(dx: i64, dy: i64, k: i64) -> bool
     requires { Direction dx dy k }
     ensures { result ≡ is_flat dx dy k }
 {
-    let across = abs(dx);
-    let up = abs(dy);
+    let across = dx.abs();
+    let up = dy.abs();
     let sx = whole::sign(dx);
     let sy = whole::sign(dy);
     let tie = sx * sy * k;
@@ -39,10 +27,16 @@ fn flat_end(dx: i64, dy: i64, k: i64) -> Point
     requires pos_bound { pos 0 <ℤ size dx }
     ensures { result ≡ divided (flat dx dy k) }
 {
-    let w = abs(dx);
+    let w = dx.abs();
     let sx = whole::sign(dx);
     let ny = sx * k;
-    divide(dx, 0, dy, ny, w)
+    divide(Point {
+        mx: dx,
+        nx: 0,
+        my: dy,
+        ny,
+        w,
+    })
 }
 
 fn steep_end(dx: i64, dy: i64, k: i64) -> Point
@@ -50,11 +44,17 @@ fn steep_end(dx: i64, dy: i64, k: i64) -> Point
     requires pos_bound { pos 0 <ℤ size dy }
     ensures { result ≡ divided (steep dx dy k) }
 {
-    let w = abs(dy);
+    let w = dy.abs();
     let sy = whole::sign(dy);
     let sk = sy * k;
     let nx = -sk;
-    divide(dx, nx, dy, 0, w)
+    divide(Point {
+        mx: dx,
+        nx,
+        my: dy,
+        ny: 0,
+        w,
+    })
 }
 
 pub fn far_end(px: i64, py: i64, dx: i64, dy: i64) -> Point

@@ -2,9 +2,9 @@
 // is told by how far along each; on one line a shared point is given, and an end where it is an object's own p or q; and a point that a side
 // shares is an end of the other object, and one of the side where it is a corner of the frame. Where joints are asked for, none is looked for.
 ghost use Rattle.std.specs.Prelude.{◌≡◌, not, ◌&&◌};
-ghost use Rattle.kernel.specs.Joints.{place_end, own_end, is_corner, touch_left, corner_left};
+ghost use Rattle.kernel.specs.Joints.{place_end, own_end, corner_at, touch_left, corner_left};
 
-use sheet::{Crossing, Object};
+use sheet::{Crossing, Object, Point};
 
 // Whether the place p + (h / w) d of a segment, ray or line is an end: p, where h is 0, or q of a segment, where h is w.
 fn is_place_end(kind: i64, h: i64, w: i64) -> bool
@@ -84,22 +84,22 @@ pub(crate) fn unless_touch(
 }
 
 // Whether a point is a corner of the frame.
-fn is_corner(mx: i64, nx: i64, my: i64, ny: i64, w: i64) -> bool
-    ensures { result ≡ is_corner mx nx my ny w }
+fn is_corner(e: Point) -> bool
+    ensures { result ≡ corner_at e }
 {
-    let across = (mx == 1) | (mx == -1);
-    let up = (my == 1) | (my == -1);
-    (w == 1) & across & up & (nx == 0) & (ny == 0)
+    let across = (e.mx == 1) | (e.mx == -1);
+    let up = (e.my == 1) | (e.my == -1);
+    (e.w == 1) & across & up & (e.nx == 0) & (e.ny == 0)
 }
 
 // Whether a point that a side shares is left out.
-fn leaves_corner(joints: bool, mx: i64, nx: i64, my: i64, ny: i64, w: i64) -> bool
-    ensures { result ≡ not joints && is_corner mx nx my ny w }
+fn leaves_corner(joints: bool, e: Point) -> bool
+    ensures { result ≡ not joints && corner_at e }
 {
     if joints {
         return false;
     }
-    is_corner(mx, nx, my, ny, w)
+    is_corner(e)
 }
 
 // What a side shares, but for a corner that is left out.
@@ -107,7 +107,7 @@ pub(crate) fn unless_corner(found: Crossing, joints: bool) -> Crossing
     ensures { result ≡ corner_left joints found }
 {
     if let Crossing::Once(e) = found {
-        if leaves_corner(joints, e.mx, e.nx, e.my, e.ny, e.w) {
+        if leaves_corner(joints, e) {
             return Crossing::Nothing;
         }
     }

@@ -1,8 +1,8 @@
 // Two objects on one line: what they share lies from the later start to the sooner stop, by inner products with the first one's direction.
-ghost use Rattle.std.specs.Prelude.{◌≡◌, cond, ◌∷◌, pos};
+ghost use Rattle.std.specs.Prelude.{◌≡◌, cond};
 ghost use Rattle.sheet.specs.Figure.{vec};
 ghost use Rattle.sheet.specs.Crossing as crossing;
-ghost use Rattle.sheet.specs.Answers.{meeting_numbers, crossing_says};
+ghost use Rattle.sheet.specs.Answers.{meeting_numbers, crossing_numbers};
 ghost use Rattle.kernel.specs.Bounds.{FourPoints};
 ghost use Rattle.kernel.specs.Stretches.{stretch, between_by, overlap_by};
 
@@ -11,6 +11,7 @@ use sheet::{Crossing, Object, Point};
 // Larger than any inner product: where there is no limit.
 const FAR: i64 = 100_000_000;
 
+// An `if` at each use would be no plainer.
 fn pick(test: bool, yes: i64, no: i64) -> i64
     ensures { result ≡ cond test yes no }
 {
@@ -22,7 +23,7 @@ fn pick(test: bool, yes: i64, no: i64) -> i64
 
 // From lo, which is the place x, y, to hi: many, that place, or nothing.
 fn between(lo: i64, hi: i64, x: i64, y: i64) -> Crossing
-    ensures { crossing_says result ≡ pos 0 ∷ meeting_numbers (between_by lo hi (vec x y)) }
+    ensures { crossing_numbers result ≡ meeting_numbers (between_by lo hi (vec x y)) }
 {
     if lo < hi {
         return Crossing::Many;
@@ -36,9 +37,9 @@ fn between(lo: i64, hi: i64, x: i64, y: i64) -> Crossing
 
 // From the later of two starts to the sooner of two stops.
 fn overlap(lo: i64, hi: i64, x: i64, y: i64, low: i64, high: i64, u: i64, v: i64) -> Crossing
-    ensures { crossing_says result ≡ pos 0 ∷ meeting_numbers (overlap_by lo hi (vec x y) low high (vec u v)) }
+    ensures { crossing_numbers result ≡ meeting_numbers (overlap_by lo hi (vec x y) low high (vec u v)) }
 {
-    let stop = pick(hi < high, hi, high);
+    let stop = high.min(hi);
     if lo < low {
         return between(low, stop, u, v);
     }
@@ -59,7 +60,7 @@ pub fn together(
     sy: i64,
 ) -> Crossing
     requires { FourPoints px py qx qy rx ry sx sy }
-    ensures { crossing_says result ≡ pos 0 ∷ meeting_numbers (crossing.together (stretch ka px py qx qy) (stretch kb rx ry sx sy)) }
+    ensures { crossing_numbers result ≡ meeting_numbers (crossing.together (stretch ka px py qx qy) (stretch kb rx ry sx sy)) }
 {
     let dx = qx - px;
     let dy = qy - py;

@@ -1,43 +1,39 @@
 // Which five numbers are a point.
-ghost use Rattle.std.specs.Prelude.{◌≡◌, ◌&&◌, pos};
-ghost use Rattle.std.specs.Int.Signed.{le_z};
+ghost use Rattle.std.specs.Prelude.{◌≡◌, pos};
 ghost use Rattle.sheet.specs.Points.{standard, edge, in_square, narrow, frame, is_point, point_refusal};
+ghost use Rattle.sheet.specs.Refused.{refused_by};
 ghost use Rattle.sheet.specs.Circle.{is_given};
 
 use crate::divide::divisor;
 use sheet::Point;
-use sheet::refusal::NO_POINT;
+use sheet::refusal::Refusal;
 
-fn is_between(lo: i64, hi: i64, z: i64) -> bool
-    ensures { result ≡ le_z lo z && le_z z hi }
+pub(crate) fn is_standard(p: Point) -> bool
+    ensures { result ≡ standard p }
 {
-    (lo <= z) & (z <= hi)
-}
-
-fn is_standard(mx: i64, nx: i64, my: i64, ny: i64, w: i64) -> bool
-    ensures { result ≡ standard (record { mx = mx; nx = nx; my = my; ny = ny; w = w }) }
-{
-    let flat = (mx == 0) & (my == 0);
-    let over = (0 < w) & (w <= Point::STANDARD_W);
-    let nx_in = is_between(-Point::STANDARD_N, Point::STANDARD_N, nx);
-    let ny_in = is_between(-Point::STANDARD_N, Point::STANDARD_N, ny);
+    let flat = (p.mx == 0) & (p.my == 0);
+    let over = (0 < p.w) & (p.w <= Point::STANDARD_W);
+    let nx_in = (-Point::STANDARD_N..=Point::STANDARD_N).contains(&p.nx);
+    let ny_in = (-Point::STANDARD_N..=Point::STANDARD_N).contains(&p.ny);
     flat & over & nx_in & ny_in
 }
 
-fn is_given(mx: i64, nx: i64, my: i64, ny: i64, w: i64) -> bool
-    ensures { result ≡ is_given (record { mx = mx; nx = nx; my = my; ny = ny; w = w }) }
+// Whether a point is a given one, as those of objects are.
+pub(crate) fn is_given(p: Point) -> bool
+    ensures { result ≡ is_given p }
 {
-    let nx_in = !sheet::is_beyond(nx);
-    let ny_in = !sheet::is_beyond(ny);
-    is_standard(mx, nx, my, ny, w) & (w == 1) & nx_in & ny_in
+    let nx_in = !sheet::is_beyond(p.nx);
+    let ny_in = !sheet::is_beyond(p.ny);
+    is_standard(p) & (p.w == 1) & nx_in & ny_in
 }
 
-fn is_narrow(mx: i64, nx: i64, my: i64, ny: i64, w: i64) -> bool
-    ensures { result ≡ narrow (record { mx = mx; nx = nx; my = my; ny = ny; w = w }) }
+// Whether a point is fit for a turn.
+pub(crate) fn is_narrow(p: Point) -> bool
+    ensures { result ≡ narrow p }
 {
-    let over = (0 < w) & (w <= Point::FRAME_W);
-    let nx_in = is_between(-Point::FRAME_N, Point::FRAME_N, nx);
-    let ny_in = is_between(-Point::FRAME_N, Point::FRAME_N, ny);
+    let over = (0 < p.w) & (p.w <= Point::FRAME_W);
+    let nx_in = (-Point::FRAME_N..=Point::FRAME_N).contains(&p.nx);
+    let ny_in = (-Point::FRAME_N..=Point::FRAME_N).contains(&p.ny);
     over & nx_in & ny_in
 }
 
@@ -58,53 +54,33 @@ fn is_in_square(m: i64, n: i64, w: u64) -> bool
     (full < w) | ((full == w) & ((n == 0) | (toward == inward)))
 }
 
-fn is_frame(mx: i64, nx: i64, my: i64, ny: i64, w: i64) -> bool
-    ensures { result ≡ frame (record { mx = mx; nx = nx; my = my; ny = ny; w = w }) }
+fn is_frame(p: Point) -> bool
+    ensures { result ≡ frame p }
 {
-    if !is_narrow(mx, nx, my, ny, w) {
+    if !is_narrow(p) {
         return false;
     }
-    let full = w as u64;
-    let on_edge = is_edge(mx, nx, full) | is_edge(my, ny, full);
-    on_edge & is_in_square(mx, nx, full) & is_in_square(my, ny, full)
+    let full = p.w as u64;
+    let on_edge = is_edge(p.mx, p.nx, full) | is_edge(p.my, p.ny, full);
+    on_edge & is_in_square(p.mx, p.nx, full) & is_in_square(p.my, p.ny, full)
 }
 
-fn is_point(mx: i64, nx: i64, my: i64, ny: i64, w: i64) -> bool
-    ensures { result ≡ is_point (record { mx = mx; nx = nx; my = my; ny = ny; w = w }) }
+fn is_point(p: Point) -> bool
+    ensures { result ≡ is_point p }
 {
-    let placed = is_standard(mx, nx, my, ny, w) | is_frame(mx, nx, my, ny, w);
+    let placed = is_standard(p) | is_frame(p);
     if !placed {
         return false;
     }
-    divisor(mx, nx, my, ny, w) == 1
+    divisor(p.mx, p.nx, p.my, p.ny, p.w) == 1
 }
 
-// 0 for a point, 5 for five numbers that are none.
-pub fn check_point(p: Point) -> i64
-    ensures { result ≡ point_refusal p }
+// Five numbers that are no point are refused by 5.
+pub fn check_point(p: Point) -> Result<(), Refusal>
+    ensures { refused_by result ≡ point_refusal p }
 {
-    if is_point(p.mx, p.nx, p.my, p.ny, p.w) {
-        return 0;
+    if is_point(p) {
+        return Ok(());
     }
-    NO_POINT
-}
-
-// Whether a point is fit for a turn.
-pub(crate) fn check_narrow(p: Point) -> bool
-    ensures { result ≡ narrow p }
-{
-    is_narrow(p.mx, p.nx, p.my, p.ny, p.w)
-}
-
-pub(crate) fn check_standard(p: Point) -> bool
-    ensures { result ≡ standard p }
-{
-    is_standard(p.mx, p.nx, p.my, p.ny, p.w)
-}
-
-// Whether a point is a given one, as those of objects are.
-pub(crate) fn check_given(p: Point) -> bool
-    ensures { result ≡ is_given p }
-{
-    is_given(p.mx, p.nx, p.my, p.ny, p.w)
+    Err(Refusal::NoPoint)
 }

@@ -1,14 +1,14 @@
 // A side of the frame with another object. A side is taken by the way out of the square over it: (-1, 0), (0, -1), (1, 0) or (0, 1).
-ghost use Rattle.std.specs.Prelude.{◌≡◌, ◌∷◌, pos};
+ghost use Rattle.std.specs.Prelude.{◌≡◌};
 ghost use Rattle.sheet.specs.Figure.{vec, out_x, out_y, side_of, figure_of};
 ghost use Rattle.sheet.specs.Ends.{flat, steep, far_end, reverse};
 ghost use Rattle.sheet.specs.Crossing.{none, with_side};
-ghost use Rattle.sheet.specs.Answers.{meeting_numbers, crossing_says};
+ghost use Rattle.sheet.specs.Answers.{meeting_numbers, crossing_numbers};
 ghost use Rattle.kernel.specs.Bounds.{Numbers, Direction, Ahead, Out};
 ghost use Rattle.kernel.specs.Stretches.{on_by, end_by, sides_by};
 ghost use Rattle.kernel.specs.Joints.{corners_left};
 
-use crate::far::{abs, far_end, is_flat};
+use crate::far::{far_end, is_flat};
 use crate::joint::unless_corner;
 use sheet::{Crossing, Object, Point};
 
@@ -46,7 +46,7 @@ fn out_y(n: i64) -> i64
 fn sides(ox: i64, oy: i64, ux: i64, uy: i64) -> Crossing
     requires out { Out ox oy }
     requires out_2 { Out ux uy }
-    ensures { crossing_says result ≡ pos 0 ∷ meeting_numbers (sides_by ox oy ux uy) }
+    ensures { crossing_numbers result ≡ meeting_numbers (sides_by ox oy ux uy) }
 {
     let alike = ox * ux + oy * uy;
     if alike == 0 {
@@ -67,7 +67,7 @@ fn is_on_flat(ox: i64, oy: i64, dx: i64, dy: i64, k: i64) -> bool
     requires direction { Direction dx dy k }
     ensures { result ≡ on_by ox oy (flat dx dy k) }
 {
-    let w = abs(dx);
+    let w = dx.abs();
     let sx = whole::sign(dx);
     let m = ox * dx + oy * dy;
     let n = oy * (sx * k);
@@ -79,7 +79,7 @@ fn is_on_steep(ox: i64, oy: i64, dx: i64, dy: i64, k: i64) -> bool
     requires direction { Direction dx dy k }
     ensures { result ≡ on_by ox oy (steep dx dy k) }
 {
-    let w = abs(dy);
+    let w = dy.abs();
     let sy = whole::sign(dy);
     let m = ox * dx + oy * dy;
     let n = ox * -(sy * k);
@@ -103,7 +103,7 @@ fn is_on(ox: i64, oy: i64, px: i64, py: i64, dx: i64, dy: i64) -> bool
 fn with_end(ox: i64, oy: i64, px: i64, py: i64, dx: i64, dy: i64) -> Crossing
     requires out { Out ox oy }
     requires ahead { Ahead px py dx dy }
-    ensures { crossing_says result ≡ pos 0 ∷ meeting_numbers (end_by ox oy (far_end (vec px py) (vec dx dy)) none) }
+    ensures { crossing_numbers result ≡ meeting_numbers (end_by ox oy (far_end (vec px py) (vec dx dy)) none) }
 {
     if is_on(ox, oy, px, py, dx, dy) {
         let e = far_end(px, py, dx, dy);
@@ -115,7 +115,7 @@ fn with_end(ox: i64, oy: i64, px: i64, py: i64, dx: i64, dy: i64) -> Crossing
 fn with_line(ox: i64, oy: i64, px: i64, py: i64, dx: i64, dy: i64) -> Crossing
     requires out { Out ox oy }
     requires ahead { Ahead px py dx dy }
-    ensures { crossing_says result ≡ pos 0 ∷ meeting_numbers (end_by ox oy (far_end (vec px py) (vec dx dy)) (end_by ox oy (far_end (vec px py) (reverse (vec dx dy))) none)) }
+    ensures { crossing_numbers result ≡ meeting_numbers (end_by ox oy (far_end (vec px py) (vec dx dy)) (end_by ox oy (far_end (vec px py) (reverse (vec dx dy))) none)) }
 {
     if is_on(ox, oy, px, py, dx, dy) {
         let e = far_end(px, py, dx, dy);
@@ -129,7 +129,7 @@ fn with_line(ox: i64, oy: i64, px: i64, py: i64, dx: i64, dy: i64) -> Crossing
 // What side n shares with an object.
 fn with_side(n: i64, kind: i64, px: i64, py: i64, qx: i64, qy: i64) -> Crossing
     requires { Numbers kind px py qx qy }
-    ensures { crossing_says result ≡ pos 0 ∷ meeting_numbers (with_side (side_of n) (figure_of kind px py qx qy)) }
+    ensures { crossing_numbers result ≡ meeting_numbers (with_side (side_of n) (figure_of kind px py qx qy)) }
 {
     if kind == Object::SEGMENT {
         return Crossing::Nothing;
@@ -161,7 +161,7 @@ pub fn with_side_kept(
     joints: bool,
 ) -> Crossing
     requires { Numbers kind px py qx qy }
-    ensures { crossing_says result ≡ pos 0 ∷ meeting_numbers (corners_left joints (with_side (side_of n) (figure_of kind px py qx qy))) }
+    ensures { crossing_numbers result ≡ meeting_numbers (corners_left joints (with_side (side_of n) (figure_of kind px py qx qy))) }
 {
     let found = with_side(n, kind, px, py, qx, qy);
     unless_corner(found, joints)

@@ -4,17 +4,18 @@ ghost use Rattle.whole.specs.Sign.{sgn};
 ghost use Rattle.whole.specs.Choice.{or_else};
 ghost use Rattle.sheet.specs.Figure.{side_of, side};
 ghost use Rattle.sheet.specs.Refusal.{Accepted};
+ghost use Rattle.sheet.specs.Refused.{refused_by};
 ghost use Rattle.sheet.specs.PointSizes.{PointSizes};
 ghost use Rattle.sheet.specs.Signs.{order, turn, side_of_figure, side_sign, order_refusal, wide_refusal, turn_refusal, side_sign_refusal};
-ghost use Rattle.sheet.specs.Coefficients.{order_x, order_y, det, turn_a, turn_c};
+ghost use Rattle.sheet.specs.Coefficients.{det};
 ghost use Rattle.sheet.specs.Answers.{answer, signed_says};
 ghost use Rattle.kernel.specs.Forms.{pair_side};
 ghost use Rattle.kernel.specs.Bounds.{CoordinateBounds, Row, NarrowSizes, TwoPoints};
 
 use crate::lead::lead;
-use crate::points::{check_narrow, check_point};
-use sheet::refusal::WIDE_POINT;
-use sheet::{Object, Point, Signed};
+use crate::points::{check_point, is_narrow};
+use sheet::refusal::Refusal;
+use sheet::{Object, Point, check_object};
 
 // ---- order
 
@@ -28,36 +29,22 @@ fn along(m: i64, n: i64, w: i64, m2: i64, n2: i64, w2: i64) -> i64
     lead(a, b)
 }
 
-fn order_x(p: Point, q: Point) -> i64
-    requires { PointSizes p × PointSizes q }
-    ensures { result ≡ order_x p q }
-{
-    along(p.mx, p.nx, p.w, q.mx, q.nx, q.w)
-}
-
-fn order_y(p: Point, q: Point) -> i64
-    requires { PointSizes p × PointSizes q }
-    ensures { result ≡ order_y p q }
-{
-    along(p.my, p.ny, p.w, q.my, q.ny, q.w)
-}
-
 fn order_of(p: Point, q: Point) -> i64
     requires { PointSizes p × PointSizes q }
     ensures { result ≡ order p q }
 {
-    lead(order_x(p, q), order_y(p, q))
+    let x = along(p.mx, p.nx, p.w, q.mx, q.nx, q.w);
+    let y = along(p.my, p.ny, p.w, q.my, q.ny, q.w);
+    lead(x, y)
 }
 
 // -1, 0 or 1 as the first point is before, at or after the second: x first, then y.
-pub fn order_points(p: Point, q: Point) -> Signed
+pub fn order_points(p: Point, q: Point) -> Result<i64, Refusal>
     ensures { signed_says result ≡ answer (order_refusal p q) (order p q ∷ []) }
 {
-    let refusal = whole::or_else(check_point(p), check_point(q));
-    if refusal != 0 {
-        return Signed::Refused(refusal);
-    }
-    Signed::Sign(order_of(p, q))
+    check_point(p)?;
+    check_point(q)?;
+    Ok(order_of(p, q))
 }
 
 // ---- turn
@@ -73,115 +60,76 @@ fn det_of(w1: i64, x1: i64, y1: i64, w2: i64, x2: i64, y2: i64, w3: i64, x3: i64
     w1 * one - w2 * two + w3 * three
 }
 
-// The coefficient of R R.
-fn turn_a(p: Point, q: Point, s: Point) -> i64
-    requires { NarrowSizes p × NarrowSizes q × NarrowSizes s }
-    ensures { result ≡ turn_a p q s }
-{
-    det_of(p.w, p.mx, p.my, q.w, q.mx, q.my, s.w, s.mx, s.my)
-}
-
-// The coefficient of R, in two parts.
-fn turn_mn(p: Point, q: Point, s: Point) -> i64
-    requires { NarrowSizes p × NarrowSizes q × NarrowSizes s }
-    ensures { result ≡ det p.w p.mx p.ny q.w q.mx q.ny s.w s.mx s.ny }
-{
-    det_of(p.w, p.mx, p.ny, q.w, q.mx, q.ny, s.w, s.mx, s.ny)
-}
-
-fn turn_nm(p: Point, q: Point, s: Point) -> i64
-    requires { NarrowSizes p × NarrowSizes q × NarrowSizes s }
-    ensures { result ≡ det p.w p.nx p.my q.w q.nx q.my s.w s.nx s.my }
-{
-    det_of(p.w, p.nx, p.my, q.w, q.nx, q.my, s.w, s.nx, s.my)
-}
-
-// The coefficient without R.
-fn turn_c(p: Point, q: Point, s: Point) -> i64
-    requires { NarrowSizes p × NarrowSizes q × NarrowSizes s }
-    ensures { result ≡ turn_c p q s }
-{
-    det_of(p.w, p.nx, p.ny, q.w, q.nx, q.ny, s.w, s.nx, s.ny)
-}
-
+// By the coefficient of R R, that of R in two parts, and that without R.
 fn turn_of(p: Point, q: Point, s: Point) -> i64
     requires { NarrowSizes p × NarrowSizes q × NarrowSizes s }
     ensures { result ≡ turn p q s }
 {
-    let a = turn_a(p, q, s);
-    let b = turn_mn(p, q, s) + turn_nm(p, q, s);
-    let c = turn_c(p, q, s);
+    let a = det_of(p.w, p.mx, p.my, q.w, q.mx, q.my, s.w, s.mx, s.my);
+    let mn = det_of(p.w, p.mx, p.ny, q.w, q.mx, q.ny, s.w, s.mx, s.ny);
+    let nm = det_of(p.w, p.nx, p.my, q.w, q.nx, q.my, s.w, s.nx, s.my);
+    let b = mn + nm;
+    let c = det_of(p.w, p.nx, p.ny, q.w, q.nx, q.ny, s.w, s.nx, s.ny);
     lead(lead(a, b), c)
 }
 
-// 6 where one of three points is too wide for a turn.
-fn wide_refusal(p: Point, q: Point, s: Point) -> i64
-    ensures { result ≡ wide_refusal p q s }
+// Three points of which one is too wide for a turn are refused by 6.
+fn check_wide(p: Point, q: Point, s: Point) -> Result<(), Refusal>
+    ensures { refused_by result ≡ wide_refusal p q s }
 {
-    if check_narrow(p) & check_narrow(q) & check_narrow(s) {
-        return 0;
+    if is_narrow(p) & is_narrow(q) & is_narrow(s) {
+        return Ok(());
     }
-    WIDE_POINT
+    Err(Refusal::WidePoint)
 }
 
-fn turn_refusal(p: Point, q: Point, s: Point) -> i64
-    ensures { result ≡ turn_refusal p q s }
+fn check_turn(p: Point, q: Point, s: Point) -> Result<(), Refusal>
+    ensures { refused_by result ≡ turn_refusal p q s }
 {
-    let late = whole::or_else(check_point(s), wide_refusal(p, q, s));
-    whole::or_else(check_point(p), whole::or_else(check_point(q), late))
+    check_point(p)?;
+    check_point(q)?;
+    check_point(s)?; // each has to be a point before any is too wide
+    check_wide(p, q, s)
 }
 
 // The way that three narrow points turn: 1 to the left, -1 to the right, 0 straight.
-pub fn turn_points(p: Point, q: Point, s: Point) -> Signed
+pub fn turn_points(p: Point, q: Point, s: Point) -> Result<i64, Refusal>
     ensures { signed_says result ≡ answer (turn_refusal p q s) (turn p q s ∷ []) }
 {
-    let refusal = turn_refusal(p, q, s);
-    if refusal != 0 {
-        return Signed::Refused(refusal);
-    }
-    Signed::Sign(turn_of(p, q, s))
+    check_turn(p, q, s)?;
+    Ok(turn_of(p, q, s))
 }
 
 // ---- side
 
 // Of the line from p to q: dx Y - dy X - w k.
-pub(crate) fn pair_side(
-    px: i64,
-    py: i64,
-    qx: i64,
-    qy: i64,
-    mx: i64,
-    nx: i64,
-    my: i64,
-    ny: i64,
-    w: i64,
-) -> i64
-    requires { TwoPoints px py qx qy × CoordinateBounds mx nx w × CoordinateBounds my ny w }
-    ensures { result ≡ pair_side px py qx qy mx nx my ny w }
+pub(crate) fn pair_side(px: i64, py: i64, qx: i64, qy: i64, s: Point) -> i64
+    requires { TwoPoints px py qx qy × CoordinateBounds s.mx s.nx s.w × CoordinateBounds s.my s.ny s.w }
+    ensures { result ≡ pair_side px py qx qy s.mx s.nx s.my s.ny s.w }
 {
     let dx = qx - px;
     let dy = qy - py;
     let k = dx * py - dy * px;
-    let b = dx * my - dy * mx;
-    let c = dx * ny - dy * nx - w * k;
+    let b = dx * s.my - dy * s.mx;
+    let c = dx * s.ny - dy * s.nx - s.w * k;
     lead(b, c)
 }
 
 // Of side n of the frame: how far the point is inside of it.
-fn frame_side(n: i64, mx: i64, nx: i64, my: i64, ny: i64, w: i64) -> i64
-    requires { CoordinateBounds mx nx w × CoordinateBounds my ny w }
-    ensures { result ≡ side_of_figure (side (side_of n)) (record { mx = mx; nx = nx; my = my; ny = ny; w = w }) }
+fn frame_side(n: i64, s: Point) -> i64
+    requires { CoordinateBounds s.mx s.nx s.w × CoordinateBounds s.my s.ny s.w }
+    ensures { result ≡ side_of_figure (side (side_of n)) s }
 {
     if n == 1 {
-        return lead(mx + w, nx);
+        return lead(s.mx + s.w, s.nx);
     }
     if n == 2 {
-        return lead(my + w, ny);
+        return lead(s.my + s.w, s.ny);
     }
     if n == 3 {
-        return lead(w - mx, -nx);
+        return lead(s.w - s.mx, -s.nx);
     }
-    lead(w - my, -ny)
+    lead(s.w - s.my, -s.ny)
 }
 
 fn side_sign(o: Object, s: Point) -> i64
@@ -190,18 +138,16 @@ fn side_sign(o: Object, s: Point) -> i64
 {
     let kind = o.kind;
     if kind == Object::SIDE {
-        return frame_side(o.px, s.mx, s.nx, s.my, s.ny, s.w);
+        return frame_side(o.px, s);
     }
-    pair_side(o.px, o.py, o.qx, o.qy, s.mx, s.nx, s.my, s.ny, s.w)
+    pair_side(o.px, o.py, o.qx, o.qy, s)
 }
 
 // The side of an object that a point is on: 1 to the left of its arrow, 0 on its line, -1 to the right. Wide points are taken too.
-pub fn side_of(o: Object, s: Point) -> Signed
+pub fn side_of(o: Object, s: Point) -> Result<i64, Refusal>
     ensures { signed_says result ≡ answer (side_sign_refusal o s) (side_sign o s ∷ []) }
 {
-    let refusal = whole::or_else(sheet::object_refusal(o), check_point(s));
-    if refusal != 0 {
-        return Signed::Refused(refusal);
-    }
-    Signed::Sign(side_sign(o, s))
+    check_object(o)?;
+    check_point(s)?;
+    Ok(side_sign(o, s))
 }

@@ -1,11 +1,11 @@
 // Two segments, rays or lines: whether they are parallel, and where two that are not meet. A joint is left out here, before its point is worked
 // out, unless joints are asked for.
-ghost use Rattle.std.specs.Prelude.{◌≡◌, ◌∷◌, pos, ◌*ℤ◌};
+ghost use Rattle.std.specs.Prelude.{◌≡◌, pos, ◌*ℤ◌};
 ghost use Rattle.whole.specs.Sign.{sgn};
 ghost use Rattle.sheet.specs.Points.{divided};
 ghost use Rattle.sheet.specs.Figure.{vec, ◌⇀◌};
 ghost use Rattle.sheet.specs.Crossing.{cross, meeting_point};
-ghost use Rattle.sheet.specs.Answers.{meeting_numbers, crossing_says};
+ghost use Rattle.sheet.specs.Answers.{meeting_numbers, crossing_numbers};
 ghost use Rattle.kernel.specs.Bounds.{FourPoints, Apart, TimesSign};
 ghost use Rattle.kernel.specs.Stretches.{stretch, reaches_by};
 ghost use Rattle.kernel.specs.Joints.{skew_kept, stretches_kept};
@@ -54,7 +54,13 @@ fn meeting_point(px: i64, py: i64, qx: i64, qy: i64, rx: i64, ry: i64, sx: i64, 
     let nx = times_sign(across, over);
     let ny = times_sign(across, up);
     let w = times_sign(across, across);
-    divide(0, nx, 0, ny, w)
+    divide(Point {
+        mx: 0,
+        nx,
+        my: 0,
+        ny,
+        w,
+    })
 }
 
 // Not parallel: the lines meet at p + (h / w) d and r + (g / w) f, and a point is shared if both reach it. By h, g and w it is told whether it is
@@ -76,7 +82,7 @@ fn skewed(
 ) -> Crossing
     requires apart { Apart px py qx qy rx ry sx sy }
     requires across_value { across ≡ cross (vec px py ⇀ vec qx qy) (vec rx ry ⇀ vec sx sy) }
-    ensures { crossing_says result ≡ pos 0 ∷ meeting_numbers (skew_kept joints ka px py qx qy kb rx ry sx sy) }
+    ensures { crossing_numbers result ≡ meeting_numbers (skew_kept joints ka px py qx qy kb rx ry sx sy) }
 {
     let dx = qx - px;
     let dy = qy - py;
@@ -118,7 +124,7 @@ pub fn cross_stretches(
     joints: bool,
 ) -> Crossing
     requires { FourPoints px py qx qy rx ry sx sy }
-    ensures { crossing_says result ≡ pos 0 ∷ meeting_numbers (stretches_kept joints ka px py qx qy kb rx ry sx sy) }
+    ensures { crossing_numbers result ≡ meeting_numbers (stretches_kept joints ka px py qx qy kb rx ry sx sy) }
 {
     let dx = qx - px;
     let dy = qy - py;

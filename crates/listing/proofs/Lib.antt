@@ -1,3 +1,5 @@
 pub mod Answers
 pub mod Near
 pub mod NearLaws
+pub mod Taken
+pub mod Turns

@@ -10,6 +10,7 @@ use Rattle.sheet.specs.Listable.{Listable}
 use Rattle.cut.proofs.ExtentAt.{apart_none}
 use Rattle.listing.specs.Rows.{meeting_of, row_of, rows_with}
 use Rattle.listing.specs.RowsLaws.{row-none}
+use Rattle.listing.specs.declared.runs.Run.{Run}
 use Rattle.listing.specs.Near.{near_of}
 use Rattle.listing.specs.Runs.{in_runs, Chosen}
 
@@ -19,5 +20,5 @@ module _ (joints : Bool) {l : List ℤ} (L : Listable l) where
   apart-row i j a b e =
       sym (row-none joints l i j (sym (kept-none (object_at l i) (object_at l j) joints (apart_none (L.each i a) (L.each j b) e))))
 
-  pub chosen-rows : {i : ℕ} {runs : List ℕ} {m : ℕ} → i < count_of l → Chosen l i runs m → in_runs (row_of joints l i) runs m ≡ rows_with joints l i
+  pub chosen-rows : {i : ℕ} {runs : List Run} {m : ℕ} → i < count_of l → Chosen l i runs m → in_runs (row_of joints l i) runs m ≡ rows_with joints l i
   chosen-rows {i} h c = c.enough (row_of joints l i) (λ j a b e. apart-row i j h b e)

@@ -1,5 +1,5 @@
--- What the inner functions of the code say of marks: x of an end, (m R + n)/w, in lists of three numbers a mark, and which of two is left.
-use Rattle.std.specs.Prelude.{◌≡◌, Bool, cond, List, [], ◌∷◌, ℕ, ◌+◌, ◌*◌, ◌<◌, ◌≤◌, ℤ, pos, ◌-ℤ◌, ◌*ℤ◌, length}
+-- What the inner functions of the code say of marks: x of an end, (m R + n)/w, in lists, and which of two is left.
+use Rattle.std.specs.Prelude.{◌≡◌, Bool, cond, List, ℕ, ◌<◌, ◌≤◌, ℤ, pos, ◌-ℤ◌, ◌*ℤ◌, length, get_or}
 use Rattle.std.specs.Int.Signed.{lt_z}
 use Rattle.whole.specs.Flag.{eq_z}
 use Rattle.whole.specs.Within.{Within}
@@ -7,7 +7,7 @@ use Rattle.sheet.specs.declared.Object.{Object}
 use Rattle.sheet.specs.declared.Point.{Point}
 use Rattle.sheet.proofs.EndsLaws.{Fine}
 use Rattle.sheet.specs.Extent.{is_left, left_end, right_end}
-use Rattle.sheet.specs.Lists.{number, object_at}
+use Rattle.sheet.specs.Lists.{object_at}
 use Rattle.listing.specs.declared.extents.Mark.{Mark}
 use Rattle.listing.specs.declared.extents.Extent.{Extent}
 
@@ -46,14 +46,8 @@ extent_of o = record { left = mark_of (left_end o); right = mark_of (right_end o
 
 -- ---- lists of marks
 
-abbrev pub mark_numbers : Mark → List ℤ
-mark_numbers a = a.m ∷ a.n ∷ a.w ∷ []
-
-abbrev pub mark_from : List ℤ → ℕ → Mark
-mark_from l at = mark (number l at) (number l (at + 1)) (number l (at + 2))
-
-abbrev pub mark_at : List ℤ → ℕ → Mark
-mark_at l i = mark_from l (i * 3)
+abbrev pub mark_at : List Mark → ℕ → Mark
+mark_at marks i = get_or marks i (mark (pos 0) (pos 0) (pos 0))
 
 -- those of the left ends, and of the right ends, of a list's objects
 abbrev pub left_mark : List ℤ → ℕ → Mark
@@ -63,11 +57,11 @@ abbrev pub right_mark : List ℤ → ℕ → Mark
 right_mark l i = mark_of (right_end (object_at l i))
 
 -- a list holds the first n of some marks
-pub record Held (f : ℕ → Mark) (marks : List ℤ) (n : ℕ) : Type 0 where
-  pub long : n * 3 ≤ length marks
+pub record Held (f : ℕ → Mark) (marks : List Mark) (n : ℕ) : Type 0 where
+  pub long : n ≤ length marks
   pub holds : (i : ℕ) → i < n → mark_at marks i ≡ f i
 
 -- a list has n marks of ends
-pub record Marked (marks : List ℤ) (n : ℕ) : Type 0 where
-  pub long : n * 3 ≤ length marks
+pub record Marked (marks : List Mark) (n : ℕ) : Type 0 where
+  pub long : n ≤ length marks
   pub ends : (i : ℕ) → i < n → OfEnd (mark_at marks i)

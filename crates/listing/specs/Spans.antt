@@ -1,25 +1,26 @@
 -- What the inner functions of the code say of spans: for each object of a list the two numbers that Near has, which tell what stands apart; and
 -- of blocks of them.
-use Rattle.std.specs.Prelude.{◌≡◌, Bool, true, false, not, ◌&&◌, List, ℕ, ◌+◌, ◌-◌, ◌*◌, ◌/◌, ◌<◌, ◌≤◌, ltb, ℤ, length}
+use Rattle.std.specs.Prelude.{◌≡◌, Bool, true, false, not, ◌&&◌, List, ℕ, ◌+◌, ◌-◌, ◌/◌, ◌<◌, ◌≤◌, ltb, ℤ, length}
 use Rattle.sheet.specs.Lists.{count_of}
+use Rattle.listing.specs.declared.spans.Span.{Span}
 use Rattle.listing.specs.Near.{low_of, high_of}
-use Rattle.listing.specs.Order.{at}
+use Rattle.listing.specs.Order.{span_at}
 
-pub record Spans (l : List ℤ) (spans : List ℕ) : Type 0 where
-  pub long : count_of l * 2 ≤ length spans
-  pub low_is : (i : ℕ) → i < count_of l → at spans (i * 2) ≡ low_of l i
-  pub high_is : (i : ℕ) → i < count_of l → at spans (i * 2 + 1) ≡ high_of l i
+pub record Spans (l : List ℤ) (spans : List Span) : Type 0 where
+  pub long : count_of l ≤ length spans
+  pub low_is : (i : ℕ) → i < count_of l → (span_at spans i).low ≡ low_of l i
+  pub high_is : (i : ℕ) → i < count_of l → (span_at spans i).high ≡ high_of l i
 
--- span k overlaps or touches the one from low to high: neither ends before the other begins
-abbrev pub near_span : ℕ → ℕ → List ℕ → ℕ → Bool
-near_span low high spans k = not (ltb high (at spans (k * 2))) && not (ltb (at spans (k * 2 + 1)) low)
+-- two spans overlap or touch: neither ends before the other begins
+abbrev pub near_span : Span → Span → Bool
+near_span a b = not (ltb a.high b.low) && not (ltb b.high a.low)
 
--- r is the first span from one on before another of which this is not so: that it is near; the other where there is none
-pub record Scan (low high : ℕ) (is : Bool) (spans : List ℕ) (from to r : ℕ) : Type 0 where
+-- r is the first span from one on before another of which this is not so: that a is near it; the other where there is none
+pub record Scan (a : Span) (is : Bool) (spans : List Span) (from to r : ℕ) : Type 0 where
   pub from_on : from ≤ r
   pub before : r ≤ to
-  pub so : (k : ℕ) → from ≤ k → k < r → near_span low high spans k ≡ is
-  pub not_so : r < to → near_span low high spans r ≡ not is
+  pub so : (k : ℕ) → from ≤ k → k < r → near_span a (span_at spans k) ≡ is
+  pub not_so : r < to → near_span a (span_at spans r) ≡ not is
 
 -- ---- blocks: the spans of so many objects together, as one
 
@@ -27,9 +28,9 @@ abbrev pub block_size : ℕ
 block_size = 32
 
 -- what is so of a block is so of each of its objects
-pub record Blocks (is : Bool) (spans blocks : List ℕ) (n : ℕ) : Type 0 where
-  pub long : (j : ℕ) → j < n → j / block_size * 2 + 2 ≤ length blocks
-  pub each : (low high j : ℕ) → j < n → near_span low high blocks (j / block_size) ≡ is → near_span low high spans j ≡ is
+pub record Blocks (is : Bool) (spans blocks : List Span) (n : ℕ) : Type 0 where
+  pub long : (j : ℕ) → j < n → j / block_size < length blocks
+  pub each : (a : Span) (j : ℕ) → j < n → near_span a (span_at blocks (j / block_size)) ≡ is → near_span a (span_at spans j) ≡ is
 
 -- r is not passed by a: it is not less where larger numbers are kept, and not more where smaller ones are
 pub data Beyond : Bool → ℕ → ℕ → Type 0 where

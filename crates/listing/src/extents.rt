@@ -1,13 +1,12 @@
-// Extents in x: of each object of a list the x of its left end and that of its right end, as marks, three numbers each.
-ghost use Rattle.std.specs.Prelude.{◌≡◌, ◌+◌, ◌*◌, ◌≤◌, length};
-ghost use Rattle.std.proofs.lemmas.List.Edits.{sets};
+// Extents in x: of each object of a list the x of its left end and that of its right end, as marks.
+ghost use Rattle.std.specs.Prelude.{◌≡◌, ◌≤◌, length};
 ghost use Rattle.sheet.specs.Refusal.{Accepted};
 ghost use Rattle.sheet.specs.Lists.{count_of};
 ghost use Rattle.sheet.specs.Listable.{Listable};
-ghost use Rattle.listing.specs.Marks.{mark, mark_of, mark_from, is_left_mark, Sound, extent_by, extent_of, mark_numbers, Held, left_mark, right_mark};
+ghost use Rattle.listing.specs.Marks.{mark_of, is_left_mark, Sound, extent_by, extent_of, Held, left_mark, right_mark};
 
 use sheet::lists::object_at;
-use sheet::{Ends, Object, Point};
+use sheet::{Object, Point};
 
 // x of an end, (m R + n)/w.
 #[derive(Clone, Copy)]
@@ -24,48 +23,33 @@ pub struct Extent {
     pub right: Mark,
 }
 
-// The numbers of a mark.
-pub(crate) const MARK: usize = 3;
+impl Mark {
+    // No mark of an end, but what lists of marks are filled with before: zeros, which the compiler fills at once.
+    pub(crate) const NONE: Mark = Mark { m: 0, n: 0, w: 0 };
 
-// Whether (m R + n)/w is left of (m2 R + n2)/w2, both w above 0.
-fn left_of(m: i64, n: i64, w: i64, m2: i64, n2: i64, w2: i64) -> bool
-    requires { Sound (mark m n w) × Sound (mark m2 n2 w2) }
-    ensures { result ≡ is_left_mark (mark m n w) (mark m2 n2 w2) }
-{
-    let a = m * w2 - m2 * w;
-    let b = n * w2 - n2 * w;
-    if a == 0 {
-        return b < 0;
-    }
-    a < 0
-}
-
-pub(crate) fn is_left(p: Mark, q: Mark) -> bool
-    requires { Sound p × Sound q }
-    ensures { result ≡ is_left_mark p q }
-{
-    left_of(p.m, p.n, p.w, q.m, q.n, q.w)
-}
-
-// The mark whose numbers begin at a place of a list.
-pub(crate) fn mark_from(marks: &[i64], at: usize) -> Mark
-    requires { at + 3 ≤ length marks.now }
-    ensures { result ≡ mark_from marks.now at }
-{
-    Mark {
-        m: marks[at],
-        n: marks[at + 1],
-        w: marks[at + 2],
+    // Whether the mark is left of another one, both w above 0.
+    pub(crate) fn is_left_of(self, other: Mark) -> bool
+        requires { Sound self × Sound other }
+        ensures { result ≡ is_left_mark self other }
+    {
+        let a = self.m * other.w - other.m * self.w;
+        let b = self.n * other.w - other.n * self.w;
+        if a == 0 {
+            return b < 0;
+        }
+        a < 0
     }
 }
 
-fn mark_of(p: Point) -> Mark
-    ensures { result ≡ mark_of p }
-{
-    Mark {
-        m: p.mx,
-        n: p.nx,
-        w: p.w,
+impl From<Point> for Mark {
+    ghost from_gives = { λ point mark. mark ≡ mark_of point };
+
+    fn from(point: Point) -> Mark {
+        Mark {
+            m: point.mx,
+            n: point.nx,
+            w: point.w,
+        }
     }
 }
 
@@ -74,9 +58,9 @@ fn extent_by(p: Point, q: Point) -> Extent
     requires { Sound (mark_of p) × Sound (mark_of q) }
     ensures { result ≡ extent_by p q }
 {
-    let first = mark_of(p);
-    let last = mark_of(q);
-    if is_left(last, first) {
+    let first = Mark::from(p);
+    let last = Mark::from(q);
+    if last.is_left_of(first) {
         return Extent {
             left: last,
             right: first,
@@ -93,48 +77,20 @@ fn extent_of(o: Object) -> Extent
     requires { Accepted o }
     ensures { result ≡ extent_of o }
 {
-    match kernel::ends::ends_of(o) {
-        Ends::Both(p, q) => {
-            return extent_by(p, q);
-        }
-        Ends::Refused(_) => {
-            let none = Mark { m: 0, n: 0, w: 1 };
-            return Extent {
-                left: none,
-                right: none,
-            };
-        }
-    }
-}
-
-// A mark at a place of a list that has room for it.
-fn write_mark(marks: &mut [i64], at: usize, mark: Mark)
-    requires { at + 3 ≤ length marks.old }
-    ensures { marks.new ≡ sets marks.old at (mark_numbers mark) }
-{
-    let m = mark.m;
-    let n = mark.n;
-    let w = mark.w;
-    marks[at] = m;
-    marks[at + 1] = n;
-    marks[at + 2] = w;
+    let ends = kernel::ends::ends_of(o).unwrap();
+    extent_by(ends.first, ends.last)
 }
 
 // The marks of the left ends and of the right ends of a list's objects.
-pub(crate) fn fill_marks(list: &[i64], lefts: &mut [i64], rights: &mut [i64])
-    requires { Listable list.now × (count_of list.now * 3 ≤ length lefts.old) × (count_of list.now * 3 ≤ length rights.old) }
+pub(crate) fn fill_marks(list: &[i64], lefts: &mut [Mark], rights: &mut [Mark])
+    requires { Listable list.now × (count_of list.now ≤ length lefts.old) × (count_of list.now ≤ length rights.old) }
     ensures { Held (left_mark list.now) lefts.new (count_of list.now) × Held (right_mark list.now) rights.new (count_of list.now) }
 {
     let n = list.len() / Object::WIDTH;
-    let mut i = 0;
-    while i < n {
+    for i in 0..n {
         let o = object_at(list, i);
         let e = extent_of(o);
-        let left = e.left;
-        let right = e.right;
-        let at = i * MARK;
-        write_mark(lefts, at, left);
-        write_mark(rights, at, right);
-        i += 1;
+        lefts[i] = e.left;
+        rights[i] = e.right;
     }
 }

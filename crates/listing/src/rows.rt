@@ -13,15 +13,16 @@ use sheet::lent::put_numbers;
 use sheet::lists::object_at;
 use sheet::{Crossing, Object};
 
-// What two accepted objects are listed with.
+// What two accepted objects are listed with: the kernel never refuses them.
 fn meet(a: Object, b: Object, joints: bool) -> Crossing
     requires { Accepted a × Accepted b }
     ensures { meeting_by result ≡ kept joints a b }
 {
-    kernel::crossing::cross_kept(a, b, joints)
+    kernel::crossing::cross_kept(a, b, joints).unwrap()
 }
 
-// A row at a place of the lent list, the only place that makes one; ti and tj are the tags of i and j. Gives the place behind it.
+// A row at a place of the lent list, the only place that makes one; ti and tj are the tags of i and j. Gives the place behind it. Five numbers and no
+// point: those of many are none.
 fn write_row(
     out: &mut [i64],
     at: usize,
@@ -68,9 +69,6 @@ pub(crate) fn put_row(
             return write_row(out, at, i, j, 2, 0, 0, 0, 0, 0, a.tag, b.tag);
         }
         Crossing::Nothing => {
-            return at;
-        }
-        Crossing::Refused(_) => {
             return at;
         }
     }

@@ -2,40 +2,42 @@
 --   is-new, is-old, is-neither   what a word asks for, from how it compares with the two words
 --   refusal_is                   lent bytes for the longest drawing have room for every one, so that moving into them refuses what the move does
 --   Handed, handed               where it does not refuse, the moved bytes stand in front
+--   refused-told                 what is told where a move is refused
 --   tells-refused, tells-moved   the status of a drawing, from what `status_of` answers
 --   writes-refused, writes-moved  what is written of a drawing, from what was handed on
 --   moves-unread, moves-input     what is told and written of an input, where it could not be read, and of its beginning
 -- Assumes nothing.
-use Rattle.std.specs.Prelude.{◌≡◌, refl, Bool, true, false, List, ◌++◌, ℕ, zero, suc, ◌≤◌, ℤ, pos, negsuc, length, take, drop, eqb, Option, None, Some, ◌+◌, ◌<◌, ltb, IfSome}
+use Rattle.std.specs.Prelude.{◌≡◌, refl, Bool, true, false, List, ◌++◌, ℕ, zero, suc, ◌≤◌, ℤ, pos, negsuc, length, take, drop, Option, None, Some, ◌+◌, ◌<◌, IfSome, Result, Ok, Err, is_ok}
 use Rattle.std.specs.Io.KnownBytes.{Consumes, IsAtEnd, Keeps}
-use Rattle.std.proofs.Common.{sym, subst, ◌∙◌, true≢false, inl, inr, arith, le-ltb, length-append, take_at, ltb-true, ltb-false, length-take-le, append-nil, take_all}
+use Rattle.std.proofs.Common.{sym, subst, ◌∙◌, true≢false, inl, inr, arith, le-ltb, length-append, take_at}
 use Rattle.std.proofs.Math.Path.{ap}
 use Rattle.std.proofs.Math.Bool.{cond}
 use Rattle.whole.specs.ChoiceLaws.{or-none}
 use Rattle.whole.specs.Tests.{eq-eq_z}
 use Rattle.store.specs.declared.Form.{Form}
 use Rattle.store.specs.declared.Form.TheVariants.{Old, New}
-use Rattle.store.specs.declared.Written.{Written}
 use Rattle.store.specs.Forms.{longest}
 use Rattle.store.specs.Stored.{Drawing, tags_refusal, write_drawing, move_refusal, moved}
 use Rattle.whole.specs.Choice.{or_else}
 use Rattle.store.proofs.LongestLaws.{beginning-decides}
-use Rattle.store.specs.Answers.{move_answer, move_into}
+use Rattle.store.specs.Answers.{WriteSays, move_answer, move_into}
 use Rattle.store.proofs.MoveLaws.{moved-no-longer}
-use Rattle.stream.specs.Status.{done, unread, status_all, status_of}
+use Rattle.stream.specs.declared.status.Status.{Status}
+use Rattle.stream.specs.declared.status.Status.TheVariants.{Refused, Unread}
+use Rattle.stream.specs.Status.{is_done, status_all, status_of}
+use Rattle.stream.specs.StreamLaws.{beginning}
 use Rattle.stream.specs.Stream.{FrontWent}
-use Rattle.mover.specs.declared.Asked.TheVariants.{To, Nothing}
 use Rattle.mover.specs.Told.{new_word, old_word, Asks, TellsMove, WritesMove, MovesInput}
 
 -- ---- the word
 
-pub is-new : (word : List ℕ) → word ≡ new_word → Asks word (To New)
-is-new word e = subst (λ (w : List ℕ). Asks w (To New)) (sym e) Asks.to_new
+pub is-new : (word : List ℕ) → word ≡ new_word → Asks word (Some New)
+is-new word e = subst (λ (w : List ℕ). Asks w (Some New)) (sym e) Asks.to_new
 
-pub is-old : (word : List ℕ) → word ≡ old_word → Asks word (To Old)
-is-old word e = subst (λ (w : List ℕ). Asks w (To Old)) (sym e) Asks.to_old
+pub is-old : (word : List ℕ) → word ≡ old_word → Asks word (Some Old)
+is-old word e = subst (λ (w : List ℕ). Asks w (Some Old)) (sym e) Asks.to_old
 
-pub is-neither : (word : List ℕ) (b c : Bool) → b ≡ false → c ≡ false → (word ≡ new_word → b ≡ true) → (word ≡ old_word → c ≡ true) → Asks word Nothing
+pub is-neither : (word : List ℕ) (b c : Bool) → b ≡ false → c ≡ false → (word ≡ new_word → b ≡ true) → (word ≡ old_word → c ≡ true) → Asks word None
 is-neither word b c e f h k = Asks.nothing (λ w. true≢false (sym (h w) ∙ e)) (λ w. true≢false (sym (k w) ∙ f))
 
 -- ---- the bytes
@@ -62,31 +64,37 @@ stands result lent true true e y h = (omega (arith, length-append result (drop (
 stands result lent true false e y h = absurd (true≢false (sym y))
 stands result lent false u e y h = absurd (true≢false (sym e))
 
-pub handed : (f : Form) (bs lent : List ℕ) (r : Written) (after : List ℕ) → length lent ≡ longest → r ≡ move_answer f bs lent → after ≡ move_into f bs lent
+pub handed : (f : Form) (bs lent : List ℕ) (r : WriteSays) (after : List ℕ) → length lent ≡ longest → r ≡ move_answer f bs lent → after ≡ move_into f bs lent
     → move_refusal f bs ≡ pos 0 → Handed f bs after r.length
 unfolding move_answer move_into
 handed f bs lent r after room d c e =
     let h = stands (moved f bs) lent _ _ (eq-eq_z e) (eq-eq_z (refusal_is f bs lent room ∙ e)) (fits f bs lent room e) in
-    subst (λ (n : ℕ). Handed f bs after n) (sym (ap (λ (w : Written). w.length) d))
+    subst (λ (n : ℕ). Handed f bs after n) (sym (ap (λ (w : WriteSays). w.length) d))
     (subst (λ (l : List ℕ). Handed f bs l (move_answer f bs lent).length) (sym c) (record { within = h.0; text = h.1 }))
 
 -- ---- the status
 
-pub tells-refused : (whole : Bool) (z n : ℤ) (status : ℕ) → whole ≡ true → z ≡ n → (n ≡ pos 0 → ⊥) → status ≡ status_of whole z → TellsMove n status
-tells-refused true z n status w e wrong h = go n wrong (h ∙ ap status_all e)
+pub refused-told : (n : ℤ) → (n ≡ pos 0 → ⊥) → TellsMove n Refused
+refused-told (pos zero) wrong = absurd (wrong refl)
+refused-told (pos (suc k)) wrong = refl
+refused-told (negsuc k) wrong = refl
+
+pub tells-refused : {A E : Type 0} (sent : Result A E) (z n : ℤ) (status : Status) → is_ok sent ≡ true → z ≡ n → (n ≡ pos 0 → ⊥)
+    → status ≡ status_of sent z → TellsMove n status
+tells-refused (Ok x) z n status w e wrong h = go n wrong (h ∙ ap status_all e)
   where
     go : (n : ℤ) → (n ≡ pos 0 → ⊥) → status ≡ status_all n → TellsMove n status
     go (pos zero) wrong h = absurd (wrong refl)
     go (pos (suc k)) wrong h = h
     go (negsuc k) wrong h = h
-tells-refused false z n status w e wrong h = absurd (true≢false (sym w))
+tells-refused (Err x) z n status w e wrong h = absurd (true≢false (sym w))
 
-pub tells-moved : (whole : Bool) (z n : ℤ) (status : ℕ) → z ≡ n → n ≡ pos 0 → status ≡ status_of whole z → TellsMove n status
-tells-moved whole z n status e o h = subst (λ (m : ℤ). TellsMove m status) (sym o) (go whole (h ∙ ap (status_of whole) (e ∙ o)))
+pub tells-moved : {A E : Type 0} (sent : Result A E) (z n : ℤ) (status : Status) → z ≡ n → n ≡ pos 0 → status ≡ status_of sent z → TellsMove n status
+tells-moved sent z n status e o h = subst (λ (m : ℤ). TellsMove m status) (sym o) (go sent (h ∙ ap (status_of sent) (e ∙ o)))
   where
-    go : (whole : Bool) → status ≡ status_of whole (pos 0) → TellsMove (pos 0) status
-    go true h = inl h
-    go false h = inr h
+    go : {A E : Type 0} (sent : Result A E) → status ≡ status_of sent (pos 0) → TellsMove (pos 0) status
+    go (Ok x) h = inl h
+    go (Err x) h = inr h
 
 -- ---- what is written
 
@@ -94,41 +102,23 @@ kept-all : (a : Option (List ℕ)) → Keeps a a
 kept-all None = tt
 kept-all (Some xs) = refl
 
-pub writes-refused : (z n : ℤ) (status : ℕ) (a : Option (List ℕ)) (bytes : List ℕ) → z ≡ n → (n ≡ pos 0 → ⊥) → WritesMove n status a a bytes
-writes-refused z (pos zero) status a bytes e wrong = absurd (wrong refl)
-writes-refused z (pos (suc k)) status a bytes e wrong = kept-all a
-writes-refused z (negsuc k) status a bytes e wrong = kept-all a
+pub writes-refused : (n : ℤ) (status : Status) (a : Option (List ℕ)) (bytes : List ℕ) → (n ≡ pos 0 → ⊥) → WritesMove n status a a bytes
+writes-refused (pos zero) status a bytes wrong = absurd (wrong refl)
+writes-refused (pos (suc k)) status a bytes wrong = kept-all a
+writes-refused (negsuc k) status a bytes wrong = kept-all a
 
-pub writes-moved : (whole : Bool) (z n : ℤ) (status : ℕ) (a b : Option (List ℕ)) (text bytes : List ℕ) → z ≡ n → n ≡ pos 0 → status ≡ status_of whole z
-    → text ≡ bytes → FrontWent whole a b text → WritesMove n status a b bytes
-writes-moved whole z n status a b text bytes e o h same front =
+pub writes-moved : {A E : Type 0} (sent : Result A E) (z n : ℤ) (status : Status) (a b : Option (List ℕ)) (text bytes : List ℕ) → z ≡ n → n ≡ pos 0
+    → status ≡ status_of sent z → text ≡ bytes → FrontWent (is_ok sent) a b text → WritesMove n status a b bytes
+writes-moved sent z n status a b text bytes e o h same front =
     subst (λ (m : ℤ). WritesMove m status a b bytes) (sym o)
-    (subst (λ (t : Bool). FrontWent t a b bytes) (said whole status (h ∙ ap (status_of whole) (e ∙ o)))
-    (subst (FrontWent whole a b) same front))
+    (subst (λ (t : Bool). FrontWent t a b bytes) (said sent status (h ∙ ap (status_of sent) (e ∙ o)))
+    (subst (FrontWent (is_ok sent) a b) same front))
   where
-    said : (whole : Bool) (status : ℕ) → status ≡ status_of whole (pos 0) → whole ≡ eqb status done
-    said true status h = sym (ap (λ (s : ℕ). eqb s done) h)
-    said false status h = sym (ap (λ (s : ℕ). eqb s done) h)
+    said : {A E : Type 0} (sent : Result A E) (status : Status) → status ≡ status_of sent (pos 0) → is_ok sent ≡ is_done status
+    said (Ok x) status h = sym (ap is_done h)
+    said (Err x) status h = sym (ap is_done h)
 
 -- ---- the input
-
--- what was read is the input's beginning: all of it, or one byte more than a drawing can have
-beginning : (a b : Option (List ℕ)) (got : ℕ) (bytes : List ℕ) → length bytes ≡ longest + 1 → got ≤ length bytes → Consumes a b (take got bytes)
-    → (got < length bytes → IsAtEnd b) → IfSome a (λ xs. take got bytes ≡ take (longest + 1) xs)
-beginning None b got bytes long within read end = tt
-beginning (Some xs) None got bytes long within read end = absurd read
-beginning (Some xs) (Some ys) got bytes long within read end = go (ltb got (length bytes)) (ltb-true got (length bytes)) (ltb-false got (length bytes))
-  where
-    size : length (take got bytes) ≡ got
-    size = length-take-le got bytes within
-
-    go : (t : Bool) → (t ≡ true → got < length bytes) → (t ≡ false → length bytes ≤ got) → take got bytes ≡ take (longest + 1) xs
-    go true y m =
-        let all : xs ≡ take got bytes = read ∙ ap (λ (l : List ℕ). take got bytes ++ l) (end (y refl)) ∙ append-nil (take got bytes) in
-        sym (ap (take (longest + 1)) all ∙ take_all (longest + 1) (take got bytes) (omega (arith, size)))
-    go false y m =
-        let full : length (take got bytes) ≡ longest + 1 = let h = m refl in omega (arith, size) in
-        sym (ap (take (longest + 1)) read ∙ take_at (take got bytes) ys (longest + 1) full)
 
 same-refusal : (f : Form) (xs : List ℕ) → move_refusal f (take (longest + 1) xs) ≡ move_refusal f xs
 unfolding move_refusal
@@ -138,17 +128,17 @@ same-bytes : (f : Form) (xs : List ℕ) → moved f (take (longest + 1) xs) ≡ 
 unfolding moved
 same-bytes f xs = ap (λ (r : Drawing). write_drawing f r.objects) (beginning-decides xs)
 
-pub moves-unread : (f : Form) (status : ℕ) (a old : Option (List ℕ)) → status ≡ unread → IfSome a (MovesInput f status old old)
+pub moves-unread : (f : Form) (status : Status) (a old : Option (List ℕ)) → status ≡ Unread → IfSome a (MovesInput f status old old)
 moves-unread f status None old e = tt
 moves-unread f status (Some xs) old e = inl (e, kept-all old)
 
-pub moves-input : (f : Form) (status : ℕ) (a b old new : Option (List ℕ)) (got : ℕ) (bytes : List ℕ) → length bytes ≡ longest + 1 → got ≤ length bytes
+pub moves-input : (f : Form) (status : Status) (a b old new : Option (List ℕ)) (got : ℕ) (bytes : List ℕ) → length bytes ≡ longest + 1 → got ≤ length bytes
     → Consumes a b (take got bytes) → (got < length bytes → IsAtEnd b)
     → TellsMove (move_refusal f (take got bytes)) status → WritesMove (move_refusal f (take got bytes)) status old new (moved f (take got bytes))
     → IfSome a (MovesInput f status old new)
 moves-input f status None b old new got bytes long within read end tells writes = tt
 moves-input f status (Some xs) b old new got bytes long within read end tells writes =
-    let front = beginning (Some xs) b got bytes long within read end in
+    let front = beginning (longest + 1) (Some xs) b got bytes long within read end in
     let refusal = ap (move_refusal f) front ∙ same-refusal f xs in
     let text = ap (moved f) front ∙ same-bytes f xs in
     inr (

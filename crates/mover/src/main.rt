@@ -2,19 +2,21 @@
 // standard output. All of its work is in store, and in stream, by which bytes come and go.
 #![tactic(auto)]
 
-ghost use Rattle.std.specs.Prelude.{◌≡◌, true, ◌+◌, pos, length, take, IfSome};
-ghost use Rattle.stream.specs.Stream.{FrontWent, IsPrefixLen};
-ghost use Rattle.store.specs.Forms.{longest};
+ghost use Rattle.std.specs.Prelude.{◌≡◌, true, is_ok, pos, IfSome};
+ghost use Rattle.stream.specs.Stream.{FrontWent};
 ghost use Rattle.store.specs.Stored.{move_refusal, moved};
 ghost use Rattle.mover.specs.Told.{Asks, TellsMove, WritesMove, MovesInput};
 
+use sheet::refusal::Unfilled;
 use std::env::Env;
 use std::io::{Read, Write};
 use std::str;
 use std::time::Clock;
 use store::Form;
 use stream::front;
-use stream::status::{UNREAD, status_of, tell};
+use stream::input::{Unread, read_bytes};
+use stream::output::{Output, Unwritten};
+use stream::status::{Status, status_of, tell};
 
 // The argument that names the form, and the one that asks for the program's status.
 const FORM: usize = 1;
@@ -24,119 +26,102 @@ const STATUS: usize = 2;
 // The letters of a form's name. An argument that is longer names none.
 const LETTERS: usize = 3;
 
-// What the program is asked to do.
-#[derive(Clone, Copy)]
-enum Asked {
-    To(Form),
-    Nothing,
-}
-
-// What a word asks for.
-fn asked_by(word: &[u8]) -> Asked
+// The form that a word asks for.
+fn asked_by(word: &[u8]) -> Option<Form>
     ensures { Asks word.now result }
 {
     if word == b"new".as_slice() {
-        return Asked::To(Form::New);
+        return Some(Form::New);
     }
     if word == b"old".as_slice() {
-        return Asked::To(Form::Old);
+        return Some(Form::Old);
     }
-    Asked::Nothing
+    None
 }
 
-// What the program's argument asks for.
-fn first_argument(rt: &impl Env) -> Asked {
+// The form that the program's argument asks for.
+fn first_argument(rt: &impl Env) -> Option<Form> {
     let mut word = [0u8; LETTERS];
-    match rt.arg(FORM, &mut word) {
-        Ok(n) => asked_by(&word[..n]),
-        Err(_) => Asked::Nothing,
-    }
+    let n = rt.arg(FORM, &mut word).ok()?;
+    asked_by(&word[..n])
 }
 
-// Says that a drawing is refused. Standard output is for moved bytes alone.
-fn say_refused(rt: &impl Eprint, number: i64) {
+// Says that a drawing is refused. Standard output is for moved bytes alone. There is room for every such line.
+fn say_refused(rt: &impl Eprint, unfilled: Unfilled) {
     let mut text = [0u8; rowtext::LINE_MOST];
-    let put = rowtext::put_refused(number, &mut text);
-    let n = front(put.length, &text);
-    if let Ok(line) = str::from_utf8(&text[..n]) {
+    let n = rowtext::put_refused(i64::from(unfilled), &mut text).unwrap_or(0);
+    if let Ok(line) = str::from_utf8(&text[..front(n, &text)]) {
         let _ = rt.eprint(line);
     }
 }
 
-// Writes the moved bytes of a drawing that is not refused, and answers whether all of them went. It takes the drawing too, so that what it is
-// handed is known to be that.
+// Writes the moved bytes of a drawing that is not refused. It takes the drawing too, so that what it is handed is known to be that.
 fn hand_moved<W: Write>(
     rt: &(impl Clock + Eprint),
-    to: &mut W,
-    taken: bool,
+    out: &mut Output<'_, W>,
     drawing: &[u8],
     form: Form,
     bytes: &[u8],
-) -> bool
-    requires taken_value { taken ≡ true }
+) -> Result<(), Unwritten>
+    requires whole { out.old.whole ≡ true }
     requires drawing_value { move_refusal form drawing.now ≡ pos 0 }
     requires bytes_value { bytes.now ≡ moved form drawing.now }
-    ensures { FrontWent result (W.contents to.old) (W.contents to.new) bytes.now }
+    ensures { FrontWent (is_ok result) (W.contents out.old.to) (W.contents out.new.to) bytes.now }
 {
-    let sent = stream::output::hand_on(rt, to, b"move: standard output", taken, bytes);
-    sent.whole
+    out.hand_on(rt, bytes)
 }
 
-// Moves the drawing that the first of these bytes are, and answers the program's status. There is one more of them than a drawing can have, so
-// that an input that is too long is seen; store's `beginning-decides` says that its beginning is refused as the whole is.
+// Moves a drawing, and answers the program's status.
 fn move_bytes<W: Write>(
     rt: &(impl Clock + Eprint),
-    to: &mut W,
-    taken: bool,
-    bytes: &[u8],
-    got: usize,
+    out: &mut Output<'_, W>,
+    drawing: &[u8],
     form: Form,
-) -> u8
-    requires taken_value { taken ≡ true }
-    requires bytes_len { length bytes.now ≡ longest + 1 }
-    requires prefix_len { IsPrefixLen got bytes.now }
-    ensures tells { TellsMove (move_refusal form (take got bytes.now)) result }
-    ensures writes { WritesMove (move_refusal form (take got bytes.now)) result (W.contents to.old) (W.contents to.new)
-        (moved form (take got bytes.now)) }
+) -> Status
+    requires { out.old.whole ≡ true }
+    ensures tells { TellsMove (move_refusal form drawing.now) result }
+    ensures writes { WritesMove (move_refusal form drawing.now) result (W.contents out.old.to) (W.contents out.new.to) (moved form drawing.now) }
 {
-    let mut out = [0u8; store::LONGEST];
-    let written = store::move_drawing(&bytes[..got], form, &mut out);
-    let refusal = written.refusal;
-    if refusal != 0 {
-        say_refused(rt, refusal);
-        return status_of(taken, refusal);
+    let mut lent = [0u8; store::LONGEST];
+    match store::move_drawing(drawing, form, &mut lent) {
+        Ok(n) => status_of(hand_moved(rt, out, drawing, form, &lent[..n]), 0),
+        Err(unfilled) => {
+            say_refused(rt, unfilled);
+            Status::Refused
+        }
     }
-    let n = written.length;
-    let went = hand_moved(rt, to, taken, &bytes[..got], form, &out[..n]);
-    status_of(went, refusal)
 }
 
-// Reads the input, moves it, and answers the program's status.
+// Reads the input, moves it, and answers the program's status. It reads one byte more than a drawing can have, so that an input that is too
+// long is seen; store's `beginning-decides` says that its beginning is refused as the whole is.
 fn move_input<R: Read, W: Write>(
     rt: &(impl Clock + Eprint),
     from: &mut R,
-    to: &mut W,
+    out: &mut Output<'_, W>,
     form: Form,
-) -> u8
-    ensures { IfSome (R.remaining from.old) (MovesInput form result (W.contents to.old) (W.contents to.new)) }
+) -> Status
+    requires { out.old.whole ≡ true }
+    ensures { IfSome (R.remaining from.old) (MovesInput form result (W.contents out.old.to) (W.contents out.new.to)) }
 {
     let mut bytes = [0u8; store::LONGEST + 1];
-    let taken = stream::input::read_bytes(rt, from, b"move: standard input", &mut bytes);
-    if !taken.whole {
-        return UNREAD;
+    match read_bytes(rt, from, b"move: standard input", &mut bytes) {
+        Ok(got) => move_bytes(rt, out, &bytes[..got], form),
+        Err(Unread) => Status::Unread,
     }
-    move_bytes(rt, to, taken.whole, &bytes, taken.length, form)
 }
 
 fn main(rt: HostRuntime) {
-    match first_argument(&rt) {
-        Asked::To(form) => {
-            let status = move_input(&rt, &mut rt.stdin(), &mut rt.stdout(), form);
-            tell(&rt, STATUS, status);
-        }
-        Asked::Nothing => {
+    let mut out = Output {
+        to: rt.stdout(),
+        what: b"move: standard output",
+        whole: true,
+    };
+    let status = match first_argument(&rt) {
+        Some(form) => move_input(&rt, &mut rt.stdin(), &mut out, form),
+        None => {
             let _ = rt.eprintln("move: the form to move to is new or old");
-            tell(&rt, STATUS, UNREAD);
+            Status::Unread
         }
-    }
+    };
+    tell(&rt, STATUS, status);
 }

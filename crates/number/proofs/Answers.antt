@@ -5,15 +5,18 @@ use Prim.Native.Nat.{ℕ}
 use contract.Lifetimes.{Lfts}
 use denote.Ref.{Bor}
 use denote.MutBor.{MutBor}
+use Rattle.std.specs.Prelude.{Result}
+use Rattle.sheet.specs.declared.refusal.Refusal.{Refusal}
 use Rattle.number.specs.declared.Number.{Number}
+use Rattle.number.specs.SaysLaws.{says-one}
 use Rattle.number.proofs.read_number.Reads as read_number
 use Rattle.number.proofs.stored_size.Reads as stored-size
 use Rattle.number.proofs.put_stored.Reads as put-stored
 
 pub read-number-answer :
-    (κs : Lfts 1) (bytes : Bor (List ℕ)) (r s : Number)
+    (κs : Lfts 1) (bytes : Bor (List ℕ)) (r s : Result Number Refusal)
     → read_number.Post κs (bytes, tt) r (bytes, tt) → read_number.Post κs (bytes, tt) s (bytes, tt) → r ≡ s
-read-number-answer κs bytes r s p q = p.0 ∙ sym q.0
+read-number-answer κs bytes r s p q = says-one r s (p.0 ∙ sym q.0)
 
 pub stored-size-answer :
     (κs : Lfts 1) (numbers : Bor (List ℕ)) (r s : ℕ)

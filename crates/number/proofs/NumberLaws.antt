@@ -2,14 +2,17 @@
 --   Numbered, number_is   a number with some bytes in front of the rest, or refusal 7 or 8
 --   number-tells, number_at   what the answer of `read_number` says of the reading, of bytes and of the rest of them
 -- Assumes nothing.
-use Rattle.std.specs.Prelude.{◌≡◌, refl, Bool, true, false, List, [], ◌∷◌, ◌++◌, ℕ, ◌+◌, ◌-◌, ◌≤◌, pos, length, take, drop}
-use Rattle.std.proofs.Common.{sym, ap, subst, ◌∙◌, arith, length-append, drop_at}
+use Rattle.std.specs.Prelude.{◌≡◌, refl, Bool, true, false, List, [], ◌∷◌, ◌++◌, ℕ, ◌+◌, ◌-◌, ◌≤◌, pos, nat_abs, length, take, drop, Result, Ok, Err}
+use Rattle.std.proofs.Common.{sym, ap, ◌∙◌, arith, length-append, drop_at}
+use Rattle.sheet.specs.declared.refusal.Refusal.{Refusal}
+use Rattle.sheet.specs.Refused.{no_of}
+use Rattle.sheet.specs.RefusedLaws.{no-zero}
 use Rattle.number.specs.declared.Number.{Number}
-use Rattle.number.specs.Number.{most_groups, value_of, needless, Reading, got, no, checked, number_from, read_number, number_of}
+use Rattle.number.specs.Number.{Said, most_groups, value_of, needless, Reading, got, no, checked, number_from, read_number, number_of, number_says}
 use Rattle.number.proofs.ReadGroupsLaws.{Behind, read_behind}
 use Rattle.number.proofs.ReadGroupsLaws as groups
-use Rattle.number.specs.ReadAs.{ReadAs}
-use Rattle.number.specs.ReadAsLaws.{reads-taken, reads-refused, reads_at, reads-rest}
+use Rattle.number.specs.Reads.{Took, Reads}
+use Rattle.number.specs.ReadsLaws.{reads_at, reads-rest}
 
 pub data Numbered (bs : List ℕ) : Reading ℕ → Type 0 where
   number : (n : ℕ) (front rest : List ℕ) → bs ≡ front ++ rest → Numbered bs (got n rest)
@@ -28,21 +31,30 @@ number_is bs = go (read_behind most_groups bs [])
         second true = wrong
         second false = number (value_of (g ∷ gs)) front rest e
 
-pub number-tells : (bs : List ℕ) {r : Number} → r ≡ number_of bs (read_number bs) → ReadAs bs (read_number bs) r.refusal r.value r.size
-number-tells bs e = subst (λ (n : Number). ReadAs bs (read_number bs) n.refusal n.value n.size) (sym e) (go (number_is bs))
-  where
-    go : {s : Reading ℕ} → Numbered bs s → ReadAs bs s (number_of bs s).refusal (number_of bs s).value (number_of bs s).size
-    go ends = reads-refused refl refl
-    go wrong = reads-refused refl refl
-    go (number n front rest f) =
-        let long = ap length f ∙ length-append front rest in
-        let size : length bs - length rest ≡ length front = omega arith in
-        let there : drop (length bs - length rest) bs ≡ rest = (λ i. drop (size i) (f i)) ∙ drop_at front rest (length front) refl in
-        reads-taken (ap (got n) (sym there)) (omega arith)
+said-taken : (bs : List ℕ) {r : Reading ℕ} → Numbered bs r → (n : Number) → number_says (Ok n) ≡ number_of bs r → Took bs r n.value n.size
+said-taken bs ends n e = absurd (omega (arith, ap (λ (s : Said). nat_abs s.refusal) e))
+said-taken bs wrong n e = absurd (omega (arith, ap (λ (s : Said). nat_abs s.refusal) e))
+said-taken bs (number v front rest f) n e =
+    let long = ap length f ∙ length-append front rest in
+    let value : n.value ≡ v = ap (λ (s : Said). s.value) e in
+    let size : n.size ≡ length front = omega (arith, ap (λ (s : Said). s.size) e, long) in
+    let there : drop n.size bs ≡ rest = (λ i. drop (size i) (f i)) ∙ drop_at front rest (length front) refl in
+    record { taken = λ i. got (sym value i) (sym there i); within = omega arith }
+
+said-refused : (bs : List ℕ) {r : Reading ℕ} → Numbered bs r → (e : Refusal) → number_says (Err e) ≡ number_of bs r → r ≡ no (no_of e)
+said-refused bs ends e s = ap no (sym (ap (λ (s : Said). s.refusal) s))
+said-refused bs wrong e s = ap no (sym (ap (λ (s : Said). s.refusal) s))
+said-refused bs (number v front rest f) e s = absurd (no-zero e (ap (λ (s : Said). s.refusal) s))
+
+pub number-tells :
+    (bs : List ℕ) (r : Result Number Refusal) → number_says r ≡ number_of bs (read_number bs) → Reads bs (read_number bs) r (λ n. n.value) (λ n. n.size)
+number-tells bs (Ok n) e = said-taken bs (number_is bs) n e
+number-tells bs (Err r) e = said-refused bs (number_is bs) r e
 
 -- of the rest of a slice, as a place of the slice
 pub number_at :
-    (at : ℕ) (bs : List ℕ) {r : Number} → at ≤ length bs
-    → r ≡ number_of (take (length bs - at) (drop at bs)) (read_number (take (length bs - at) (drop at bs)))
-    → ReadAs bs (read_number (drop at bs)) r.refusal r.value (at + r.size)
-number_at at bs h e = reads_at at bs h (reads-rest read_number at bs (number-tells (take (length bs - at) (drop at bs)) e))
+    (at : ℕ) (bs : List ℕ) (r : Result Number Refusal) → at ≤ length bs
+    → number_says r ≡ number_of (take (length bs - at) (drop at bs)) (read_number (take (length bs - at) (drop at bs)))
+    → Reads bs (read_number (drop at bs)) r (λ n. n.value) (λ n. at + n.size)
+number_at at bs r h e =
+    reads_at (λ n. n.value) (λ n. n.size) at bs (read_number (drop at bs)) h r (reads-rest (λ n. n.value) (λ n. n.size) at bs read_number r (number-tells (take (length bs - at) (drop at bs)) r e))

@@ -12,11 +12,14 @@ use lib.Seq.{take_at}
 use contract.Lifetimes.{Lfts}
 use denote.Ref.{Bor}
 use denote.MutBor.{MutBor}
+use Rattle.std.specs.Prelude.{Result, Ok}
 use Rattle.whole.specs.Tests.{eq_z-false}
+use Rattle.sheet.specs.declared.refusal.Refusal.{Refusal}
 use Rattle.sheet.specs.Lent.{Wrote}
 use Rattle.sheet.specs.LentLaws.{clipped-is, wrote_as, wrote-size, wrote-front}
 use Rattle.number.specs.declared.Number.{Number}
-use Rattle.number.specs.Number.{Bytes, number_limit, write_number, write_numbers, Reading, read_number, number_of}
+use Rattle.number.specs.Number.{Bytes, number_limit, write_number, write_numbers, Reading, Said, read_number, number_of, number_says}
+use Rattle.number.specs.SaysLaws.{says-one}
 use Rattle.number.specs.ReadsNumber.{ReadsNumber, taken, cut, wrong}
 use Rattle.number.proofs.GroupsLaws.{number-most}
 use Rattle.number.proofs.WrittenLaws.{number-alone}
@@ -24,13 +27,13 @@ use Rattle.number.proofs.TripLaws.{number-back, number-exact}
 use Rattle.number.proofs.read_number.Reads as ReadNumber
 use Rattle.number.proofs.put_stored.Reads as put-stored
 
-pub record Exactly (bs : List ℕ) (r : Number) : Type 0 where
+pub record Exactly (bs : List ℕ) (r : Result Number Refusal) : Type 0 where
   pub reading : Reading ℕ
-  pub answered : r ≡ number_of bs reading
+  pub answered : number_says r ≡ number_of bs reading
   pub exact : ReadsNumber bs reading
 
 pub reads-exactly :
-    (κs : Lfts 1) (bytes : Bor (List ℕ)) (r : Number) → Bytes bytes.now → ReadNumber.Post κs (bytes, tt) r (bytes, tt) → Exactly bytes.now r
+    (κs : Lfts 1) (bytes : Bor (List ℕ)) (r : Result Number Refusal) → Bytes bytes.now → ReadNumber.Post κs (bytes, tt) r (bytes, tt) → Exactly bytes.now r
 reads-exactly κs bytes r h p = record { reading = read_number bytes.now; answered = p.0; exact = number-exact bytes.now h }
 
 -- one number is put at the front
@@ -46,32 +49,33 @@ module _ (κs : Lfts 2) (numbers : Bor (List ℕ)) (lent after : MutBor (List �
   its-front room = wrote-front was-put (omega (arith, its-size))
 
   pub number-comes-back :
-      size ≤ length lent.now → (κs : Lfts 1) (bytes : Bor (List ℕ)) (r : Number) → bytes.now ≡ after.now
-      → ReadNumber.Post κs (bytes, tt) r (bytes, tt) → r ≡ record { refusal = pos 0; value = n; size = size }
+      size ≤ length lent.now → (κs : Lfts 1) (bytes : Bor (List ℕ)) (r : Result Number Refusal) → bytes.now ≡ after.now
+      → ReadNumber.Post κs (bytes, tt) r (bytes, tt) → r ≡ Ok (record { value = n; size = size })
   number-comes-back room κs bytes r same p =
       let rest = drop (length (write_number n)) lent.now in
       let bs : bytes.now ≡ write_number n ++ rest = same ∙ its-front room in
       let long : length bytes.now - length rest ≡ size = omega (arith, ap length bs, length-append (write_number n) rest, its-size) in
-      p.0
+      says-one r (Ok (record { value = n; size = size }))
+      (p.0
       ∙ ap (number_of bytes.now) (ap read_number bs ∙ number-back n rest stored)
-      ∙ ap (λ (k : ℕ). record { refusal = pos 0; value = n; size = k }) long
+      ∙ ap (λ (k : ℕ). record { refusal = pos 0; value = n; size = k }) long)
 
   pub bytes-come-back :
-      (κs : Lfts 1) (bytes : Bor (List ℕ)) (r : Number) → Bytes bytes.now → ReadNumber.Post κs (bytes, tt) r (bytes, tt) → r.refusal ≡ pos 0
+      (κs : Lfts 1) (bytes : Bor (List ℕ)) (r : Number) → Bytes bytes.now → ReadNumber.Post κs (bytes, tt) (Ok r) (bytes, tt)
       → r.value ≡ n → r.size ≤ length lent.now → (size ≡ r.size) × (take size after.now ≡ take size bytes.now)
-  bytes-come-back κs bytes r h p z same room = go (number-exact bytes.now h) p.0
+  bytes-come-back κs bytes r h p same room = go (number-exact bytes.now h) p.0
     where
       bs : List ℕ
       bs = bytes.now
 
-      go : {reading : Reading ℕ} → ReadsNumber bs reading → r ≡ number_of bs reading → (size ≡ r.size) × (take size after.now ≡ take size bs)
-      go (cut m b more l e) is = absurd (eq_z-false {a = pos 7} {b = pos 0} refl (sym (ap (λ (x : Number). x.refusal) is) ∙ z))
-      go (wrong w) is = absurd (eq_z-false {a = pos 8} {b = pos 0} refl (sym (ap (λ (x : Number). x.refusal) is) ∙ z))
+      go : {reading : Reading ℕ} → ReadsNumber bs reading → number_says (Ok r) ≡ number_of bs reading → (size ≡ r.size) × (take size after.now ≡ take size bs)
+      go (cut m b more l e) is = absurd (eq_z-false {a = pos 7} {b = pos 0} refl (sym (ap (λ (s : Said). s.refusal) is)))
+      go (wrong w) is = absurd (eq_z-false {a = pos 8} {b = pos 0} refl (sym (ap (λ (s : Said). s.refusal) is)))
       go (taken m rest l e) is =
-          let it : m ≡ n = sym (ap (λ (x : Number). x.value) is) ∙ same in
+          let it : m ≡ n = sym (ap (λ (s : Said). s.value) is) ∙ same in
           let bytes-are : bs ≡ write_number n ++ rest = e ∙ ap (λ (k : ℕ). write_number k ++ rest) it in
           let size_is : size ≡ r.size =
-          omega (arith, its-size, ap (λ (x : Number). x.size) is, ap length bytes-are, length-append (write_number n) rest) in
+          omega (arith, its-size, ap (λ (s : Said). s.size) is, ap length bytes-are, length-append (write_number n) rest) in
           let front = ap (take size) (its-front (omega arith)) ∙ take_at (write_number n) _ size (sym its-size) in
           let own = ap (take size) bytes-are ∙ take_at (write_number n) rest size (sym its-size) in
           (size_is, front ∙ sym own)

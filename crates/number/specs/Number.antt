@@ -1,6 +1,8 @@
 -- "Stored drawing" of document 01, its numbers, as document 02 has them in R-2: a stored number's groups, what is written for one, and what is
 -- read of bytes. Definitions alone.
-use Rattle.std.specs.Prelude.{Bool, false, cond, List, [], ◌∷◌, ◌++◌, ℕ, zero, suc, ◌+◌, ◌*◌, ◌-◌, ◌/◌, ◌%◌, ◌<◌, min, ltb, eqb, ℤ, pos, negsuc, length, get_or}
+use Rattle.std.specs.Prelude.{Bool, false, cond, List, [], ◌∷◌, ◌++◌, ℕ, zero, suc, ◌+◌, ◌*◌, ◌-◌, ◌/◌, ◌%◌, ◌<◌, min, ltb, eqb, ℤ, pos, negsuc, length, get_or, Result, Ok, Err}
+use Rattle.sheet.specs.declared.refusal.Refusal.{Refusal}
+use Rattle.sheet.specs.Refused.{no_of}
 use Rattle.number.specs.declared.Number.{Number}
 
 -- each number of a list is a byte
@@ -101,6 +103,16 @@ abbrev pub unzigzag : ℕ → ℤ
 unzigzag n = cond (eqb (n % 2) 0) (pos (n / 2)) (negsuc (n / 2))
 
 -- what reading a number answers: the number and how many bytes it takes, or the refusal "with every other number 0"
-abbrev pub number_of : List ℕ → Reading ℕ → Number
+pub record Said : Type 0 where
+  pub refusal : ℤ
+  pub value : ℕ
+  pub size : ℕ
+
+abbrev pub number_of : List ℕ → Reading ℕ → Said
 number_of bs (got n rest) = record { refusal = pos 0; value = n; size = length bs - length rest }
 number_of bs (no n) = record { refusal = n; value = 0; size = 0 }
+
+-- what the code's answer says
+abbrev pub number_says : Result Number Refusal → Said
+number_says (Ok n) = record { refusal = pos 0; value = n.value; size = n.size }
+number_says (Err r) = record { refusal = no_of r; value = 0; size = 0 }

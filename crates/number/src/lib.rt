@@ -2,18 +2,17 @@
 // in and on the way out. The definitions are in specs/Number.antt.
 #![tactic(auto)]
 
-ghost use Rattle.std.specs.Prelude.{◌≡◌, ◌+◌, ◌-◌, ◌<◌, ◌≤◌, min, pos, length};
+ghost use Rattle.std.specs.Prelude.{◌≡◌, ◌+◌, ◌<◌, ◌≤◌, min, length, IfOk};
 ghost use Rattle.sheet.specs.Lent.{Wrote};
 ghost use Rattle.number.specs.Storable.{all_storable};
-ghost use Rattle.number.specs.Number.{group, most_groups, number_limit, largest_number, write_number, write_numbers, read_number, number_of};
+ghost use Rattle.number.specs.Number.{group, most_groups, number_limit, largest_number, write_number, write_numbers, read_number, number_of, number_says};
 
-use sheet::lent::behind;
-use sheet::refusal::{BAD_NUMBER, BYTES_END};
+use sheet::lent::put_byte;
+use sheet::refusal::Refusal;
 
-// A stored number and how many bytes it takes, or the number of the refusal.
-#[derive(Clone, Copy)]
+// A stored number and how many bytes it takes.
+#[derive(Clone, Copy, PartialEq, Eq, Debug)]
 pub struct Number {
-    pub refusal: i64,
     pub value: u64,
     pub size: usize,
 }
@@ -27,84 +26,63 @@ impl Number {
     pub const LARGEST: u64 = 2_097_151;
 }
 
-fn taken(value: u64, size: usize) -> Number
-    ensures { result ≡ record { refusal = pos 0; value = value; size = size } }
-{
-    Number {
-        refusal: 0,
-        value,
-        size,
-    }
-}
-
-fn refused(refusal: i64) -> Number
-    ensures { result ≡ record { refusal = refusal; value = 0; size = 0 } }
-{
-    Number {
-        refusal,
-        value: 0,
-        size: 0,
-    }
-}
-
 // The number that the bytes begin with, byte by byte. What most numbers are is asked first: one group, which kinds and small coordinates
-// have, and then two. The bracket holds the type's number to the paper's.
-pub fn read_number(bytes: &[u8]) -> Number
-    ensures told { result ≡ number_of bytes.now (read_number bytes.now) }
-    ensures small { result.value < number_limit }
+// have, and then two. The clause `names` holds the type's number to the paper's.
+pub fn read_number(bytes: &[u8]) -> Result<Number, Refusal>
+    ensures told { number_says result ≡ number_of bytes.now (read_number bytes.now) }
+    ensures small { IfOk result (λ n. n.value < number_limit) }
     ensures names { Number.GROUP ≡ group }
 {
     if bytes.len() == 0 {
-        return refused(BYTES_END);
+        return Err(Refusal::BytesEnd);
     }
     let first = bytes[0] as u64;
     if first < Number::GROUP {
-        return taken(first, 1);
+        return Ok(Number {
+            value: first,
+            size: 1,
+        });
     }
     if bytes.len() == 1 {
-        return refused(BYTES_END);
+        return Err(Refusal::BytesEnd);
     }
     let low = first - Number::GROUP;
     let second = bytes[1] as u64;
     if (0 < second) & (second < Number::GROUP) {
-        return taken(low + Number::GROUP * second, 2);
+        return Ok(Number {
+            value: low + Number::GROUP * second,
+            size: 2,
+        });
     }
     if second == 0 {
-        return refused(BAD_NUMBER);
+        return Err(Refusal::BadNumber);
     }
     if bytes.len() == 2 {
-        return refused(BYTES_END);
+        return Err(Refusal::BytesEnd);
     }
     let two = low + Number::GROUP * (second - Number::GROUP);
     let third = bytes[2] as u64;
     if (0 < third) & (third < Number::GROUP) {
-        return taken(two + Number::GROUP * Number::GROUP * third, 3);
+        return Ok(Number {
+            value: two + Number::GROUP * Number::GROUP * third,
+            size: 3,
+        });
     }
-    refused(BAD_NUMBER)
+    Err(Refusal::BadNumber)
 }
 
 // Whether none of some numbers is too large.
 fn are_storable(numbers: &[u64]) -> bool
     ensures { result ≡ all_storable numbers.now }
 {
-    let mut small = true;
-    let mut i = 0;
-    while i < numbers.len() {
-        let n = numbers[i];
-        small = small & (n <= Number::LARGEST);
-        i += 1;
-    }
-    small
+    numbers.iter().all(|n| *n <= Number::LARGEST)
 }
 
 // The smaller of a number and the largest that is stored.
 fn clip(n: u64) -> u64
     ensures { result ≡ min n largest_number }
 {
-    if Number::LARGEST < n {
-        return Number::LARGEST;
-    }
-    n
+    n.min(Number::LARGEST)
 }
 
 // The bytes of a number at a place of bytes that have room for them, and the place behind them.
@@ -143,24 +121,7 @@ fn size_of(n: u64) -> usize
 pub fn stored_size(numbers: &[u64]) -> usize
     ensures { result ≡ length (write_numbers numbers.now) }
 {
-    let mut size = 0;
-    let mut i = 0;
-    while i < numbers.len() {
-        let n = clip(numbers[i]);
-        size += size_of(n);
-        i += 1;
-    }
-    size
-}
-
-// How many cells there are from a place on.
-fn room_from(length: usize, at: usize) -> usize
-    ensures { result ≡ length - at }
-{
-    if at < length {
-        return length - at;
-    }
-    0
+    numbers.iter().map(|n| size_of(clip(*n))).sum()
 }
 
 // The bytes of a number at a place of lent bytes, as far as there are cells, and the place behind them. They are written to cells of their own
@@ -171,37 +132,30 @@ fn put_number(n: u64, out: &mut [u8], at: usize) -> usize
 {
     let mut own = [0; Number::MOST];
     let size = write_number(n, &mut own, 0);
-    let room = room_from(out.len(), at);
-    let mut i = 0;
-    while i < Number::MOST {
-        if (i < size) & (i < room) {
-            let b = own[i];
-            out[at + i] = b;
-        }
-        i += 1;
+    let mut next = at;
+    for &b in &own[..size] {
+        next = put_byte(b, out, next);
     }
-    behind(at, size)
+    next
 }
 
 // The bytes of some numbers, one behind the other, at a place of lent bytes, as far as there are cells, and the place behind them. A number
 // past the largest is put as the largest. Where no number is too large, and there are the most cells that so many take, no byte's cell is
-// looked for: so it is with all objects of a drawing but the last ones.
+// looked for: so it is with all objects of a drawing but the last ones. The hint has the compiler take it into the loop over objects.
+#[inline]
 pub fn put_stored(numbers: &[u64], out: &mut [u8], at: usize) -> usize
     ensures put { Wrote out.old out.new at result (write_numbers numbers.now) }
     ensures names { (Number.MOST ≡ most_groups) × (Number.LARGEST ≡ largest_number) }
 {
-    let room = room_from(out.len(), at);
+    let room = out.len().saturating_sub(at);
     let direct = are_storable(numbers) & (numbers.len() * Number::MOST <= room);
     let mut to = at;
-    let mut i = 0;
-    while i < numbers.len() {
-        let n = numbers[i];
+    for &n in numbers {
         if direct {
             to = write_number(n, out, to);
         } else {
             to = put_number(clip(n), out, to);
         }
-        i += 1;
     }
     to
 }

@@ -3,7 +3,7 @@
 --   never, no-twelve   none refuses by a number that is not of the table, as 12
 --   once-taken         the point that a crossing answers is a point: no call refuses it by 5
 -- Assumes nothing.
-use Rattle.std.specs.Prelude.{◌≡◌, refl, Bool, true, false, cond, List, [], ◌∷◌, ℕ, zero, suc, ◌+◌, ◌*◌, ◌%◌, eqb, ltb, ℤ, pos, negsuc, ◌+ℤ◌, ◌-ℤ◌, length, drop}
+use Rattle.std.specs.Prelude.{◌≡◌, refl, Bool, true, false, cond, List, [], ◌∷◌, ℕ, zero, suc, ◌+◌, ◌*◌, ltb, ℤ, pos, negsuc, ◌+ℤ◌, ◌-ℤ◌, length, Option, None, Some, Result, Ok, Err}
 use Rattle.std.proofs.Common.{sym, ap, subst, ◌∙◌, ⊎_elim, true≢false, arith}
 use Rattle.std.specs.Int.Signed.{lt_z}
 use contract.Lifetimes.{Lfts}
@@ -16,41 +16,36 @@ use Rattle.whole.specs.Tests.{cond-by, eq_z-true, lt-lt_z}
 use Rattle.sheet.specs.declared.Object.{Object}
 use Rattle.sheet.specs.declared.Point.{Point}
 use Rattle.sheet.specs.declared.Crossing.TheVariants as crossing
+use Rattle.sheet.specs.declared.refusal.Refusal.{Refusal}
+use Rattle.sheet.specs.declared.refusal.Refusal.TheVariants as refusal
+use Rattle.sheet.specs.declared.refusal.Unfilled.{Unfilled}
+use Rattle.sheet.specs.declared.refusal.Unfilled.TheVariants as unfilled
+use Rattle.sheet.specs.Refused.{no_of, refused_by, unfilled_no}
 use Rattle.sheet.specs.RefusalTable.{refusals, among, Known}
-use Rattle.sheet.proofs.RefusalTableLaws.{one_of, one-among, not-one, known-or, known-object, known-point, known-order, known-turn, known-side-sign, known-circle, known-crossing, known-list, known-index, known-room, refusal-in}
+use Rattle.sheet.proofs.RefusalTableLaws.{one_of, one-among, not-one, known-or, known-object, known-point, known-order, known-side-sign, known-circle, known-crossing, known-list, known-index, known-room, refusal-in}
 use Rattle.sheet.specs.Points.{standard, point_refusal}
 use Rattle.whole.specs.Choice.{or_else}
 use Rattle.sheet.specs.Lists.{row_width, list_refusal, index_refusal}
-use Rattle.sheet.specs.Answers.{answer, refusal_in, meeting_numbers}
+use Rattle.sheet.specs.Answers.{answer, refusal_in, meeting_numbers, crossing_numbers}
 use Rattle.sheet.specs.AnswersLaws.{accepted, met_by}
 use Rattle.sheet.specs.AcceptsLaws.{cross-taken}
 use Rattle.sheet.specs.Crossing.{crossing_of, crossing_refusal}
 use Rattle.sheet.proofs.CrossingLaws.{crossing-is-point}
-use Rattle.store.specs.declared.Bookmark.{Bookmark}
-use Rattle.store.specs.declared.Item.{Item}
-use Rattle.store.specs.declared.Read.{Read}
-use Rattle.store.specs.declared.Stepped.{Stepped}
-use Rattle.store.specs.declared.Taken.{Taken}
-use Rattle.store.specs.declared.Written.{Written}
 use Rattle.store.specs.Refusals.{of_bytes}
 use Rattle.store.specs.declared.Form.{Form}
 use Rattle.store.specs.declared.Form.TheVariants.{Old, New}
-use Rattle.store.specs.Stored.{Head, read_drawing, form_of, write_drawing, tags_refusal, write_refusal, move_refusal, moved}
+use Rattle.store.specs.Stored.{read_drawing, form_of, write_drawing, tags_refusal, write_refusal, move_refusal, moved}
 use Rattle.store.proofs.TagsLaws.{tags-refused}
-use Rattle.number.specs.declared.Number.{Number}
 use Rattle.number.specs.Number.{Reading, read_number, number_of}
-use Rattle.store.proofs.SureLaws.{Sure, Any, sure-number, sure-object, sure-head}
+use Rattle.store.proofs.SureLaws.{Sure, Any, sure-number}
 use Rattle.store.proofs.SureLaws as sure
-use Rattle.store.specs.Reader.{step_object, step_from, step_head, step_of, item_says}
-use Rattle.store.specs.Answers.{read_answer, write_answer, move_answer, form_number, form_answer}
-use Rattle.listing.specs.declared.Listed.{Listed}
+use Rattle.store.specs.Answers.{read_answer, write_answer, move_answer, form_number}
 use Rattle.listing.specs.Rows.{sharing_with, sharing}
 use Rattle.listing.specs.Listing.{one_refusal}
-use Rattle.rowtext.specs.declared.Put.{Put}
-use Rattle.rowtext.specs.Text.{objects_word, rows_word, refused_word, rows_text, count_line}
-use Rattle.rowtext.specs.Put.{rows_refusal}
 use Rattle.screen.specs.Values.{Values, float_answer}
+use Rattle.screen.specs.declared.SheetBox.{SheetBox}
 use Rattle.screen.specs.Places.{place_of}
+use Rattle.screen.specs.Boxes.{box_says}
 use Rattle.trial.specs.declared.RowCounts.{RowCounts}
 use Rattle.trial.specs.declared.TwoNumbers.{TwoNumbers}
 use Rattle.trial.specs.declared.ThreeNumbers.{ThreeNumbers}
@@ -63,7 +58,40 @@ use Rattle.viewer.proofs.SideIsLaws.{side-answers}
 use Rattle.viewer.specs.Calls.{side_answer}
 use Rattle.store.proofs.SoundLaws.{bytes-refusal}
 use Rattle.kernel.proofs.crossing.cross.Reads as cross
-use Rattle.refusals.specs.Calls.{side_refusal_in, form_refusal_in, Calls, Never}
+use Rattle.refusals.specs.Calls.{side_refusal_in, form_refusal_in, unfilled_by, Calls, Never}
+
+-- ---- the code's refusals
+
+known-no : (e : Refusal) → Known (no_of e)
+known-no refusal.NoKind = one_of 1 refl
+known-no refusal.TooFar = one_of 2 refl
+known-no refusal.SamePoints = one_of 3 refl
+known-no refusal.NoSide = one_of 4 refl
+known-no refusal.NoPoint = one_of 5 refl
+known-no refusal.WidePoint = one_of 6 refl
+known-no refusal.BytesEnd = one_of 7 refl
+known-no refusal.BadNumber = one_of 8 refl
+known-no refusal.BytesAfter = one_of 9 refl
+known-no refusal.TooMany = one_of 11 refl
+known-no refusal.NoObject = one_of 13 refl
+known-no refusal.ListLength = one_of 14 refl
+known-no refusal.NoTag = one_of 15 refl
+known-no refusal.TagLost = one_of 16 refl
+known-no refusal.NotGiven = one_of 21 refl
+
+-- of a call whose answer is a Result
+known : {A : Type 0} (r : Result A Refusal) → Known (refused_by r)
+known (Ok a) = one_of 0 refl
+known (Err e) = known-no e
+
+known-unfilled : (u : Unfilled) → Known (unfilled_no u)
+known-unfilled (unfilled.Refused e) = known-no e
+known-unfilled (unfilled.NoRoom n) = one_of 10 refl
+
+-- of a call that fills lent cells
+known-filled : {A : Type 0} (r : Result A Unfilled) → Known (unfilled_by r)
+known-filled (Ok a) = one_of 0 refl
+known-filled (Err u) = known-unfilled u
 
 -- ---- an answer's numbers
 
@@ -71,19 +99,17 @@ use Rattle.refusals.specs.Calls.{side_refusal_in, form_refusal_in, Calls, Never}
 known-shown : {z : ℤ} (n : ℤ) (values : List ℤ) → Known n → z ≡ refusal_in (answer n values) → Known z
 known-shown n values k e = subst Known (sym (e ∙ refusal-in n values)) k
 
-known-answer : {said : List ℤ} (n : ℤ) (values : List ℤ) → Known n → said ≡ answer n values → Known (refusal_in said)
-known-answer n values k e = known-shown n values k (ap refusal_in e)
-
 -- with floats
 told-refusal : (n : ℤ) (t : Values) → refusal_in t.wholes ≡ pos 0 → refusal_in (float_answer n t).wholes ≡ n
 told-refusal n t h = cond-by (λ (u : Values). refusal_in u.wholes ≡ n) (eq_z n (pos 0)) (λ e. h ∙ sym (eq_z-true e)) (λ e. refl)
 
-known-told : {said : Values} (n : ℤ) (t : Values) → Known n → refusal_in t.wholes ≡ pos 0 → said ≡ float_answer n t → Known (refusal_in said.wholes)
-known-told n t k h e = subst Known (sym (ap (λ (u : Values). refusal_in u.wholes) e ∙ told-refusal n t h)) k
-
 place-told : (p : Point) → refusal_in (place_of p).wholes ≡ pos 0
 unfolding place_of
 place-told p = cond-by (λ (t : Values). refusal_in t.wholes ≡ pos 0) (standard p) (λ e. refl) (λ e. refl)
+
+box-told : (b : Option SheetBox) → refusal_in (box_says b).wholes ≡ pos 0
+box-told None = refl
+box-told (Some e) = refl
 
 -- ---- with lent cells
 
@@ -94,9 +120,6 @@ short lent size = ltb (length lent.now) size
 -- what a call says that refuses by n, or by 10 where they are
 known-lent : {z : ℤ} (n : ℤ) (short : Bool) → Known n → z ≡ or_else n (cond short (pos 10) (pos 0)) → Known z
 known-lent n short k e = subst Known (sym e) (known-room n short k)
-
-known-rows : (l : List ℤ) → Known (rows_refusal l)
-known-rows l = cond-by Known (eqb (length l % row_width) 0) (λ e. one_of 0 refl) (λ e. one_of 14 refl)
 
 known-one : (l : List ℤ) (i : ℕ) → Known (one_refusal l i)
 known-one l i = known-or (list_refusal l) (index_refusal l i) (known-list l) (known-index l i)
@@ -129,30 +152,6 @@ number-known bs = go (sure-number bs)
     go (sure.read n front rest e h) = one_of 0 refl
     go (sure.refused n e) = one-among of_bytes _ refl (one_of n e)
 
--- ---- a reader's calls
-
-abbrev ItemKnown : Item → Type 0
-ItemKnown i = Known (refusal_in (item_says i))
-
-item-object : (bs : List ℕ) (p : Bookmark) (f : Form) (left : ℕ) {P : Object → Type 0} {from : List ℕ} {r : Reading Object} → Sure P from r
-    → ItemKnown (step_object bs p f left r).item
-item-object bs p f left (sure.read o front rest e h) = one_of 0 refl
-item-object bs p f left (sure.refused n e) = one-among of_bytes _ refl (one_of n e)
-
-item_from : (bs : List ℕ) (p : Bookmark) (f : Form) (left at : ℕ) → ItemKnown (step_from bs p f left at).item
-unfolding step_from
-item_from bs p f zero at = cond-by ItemKnown (ltb at (length bs)) (λ e. one_of 9 refl) (λ e. one_of 0 refl)
-item_from bs p f (suc left) at = item-object bs p f left (sure-object f (drop at bs))
-
-item-head : (bs : List ℕ) (p : Bookmark) {P : Head → Type 0} {from : List ℕ} {r : Reading Head} → Sure P from r → ItemKnown (step_head bs p r).item
-item-head bs p (sure.read h front rest e _) = item_from bs p h.form h.count _
-item-head bs p (sure.refused n e) = one-among of_bytes _ refl (one_of n e)
-
-item-known : (bs : List ℕ) (p : Bookmark) → ItemKnown (step_of bs p).item
-unfolding step_of
-item-known bs p =
-    cond-by (λ (s : Stepped). ItemKnown s.item) p.begun (λ e. item_from bs p p.form p.left p.at) (λ e. item-head bs p (sure-head bs))
-
 -- ---- the viewer's side
 
 sign-in : (r : ℤ) → Within 1 r → side_refusal_in r ≡ pos 0
@@ -182,10 +181,6 @@ side-known bs i x y = go (side-answers bs i x y)
 
 -- ---- which form
 
-form-known : (bs : List ℕ) {said : List ℤ} → said ≡ form_answer bs → Known (refusal_in said)
-unfolding form_answer
-form-known bs e = known-answer _ _ (known_bytes bs) e
-
 number_in : (f : Form) → Known (form_refusal_in (form_number f))
 number_in Old = one_of 0 refl
 number_in New = one_of 0 refl
@@ -205,44 +200,37 @@ told-known bs =
 
 calls : (P : ℤ → Type 0) → ((z : ℤ) → Known z → P z) → Calls P
 calls P f = record {
-  of_segment = λ κs a r e. f _ (known-answer _ _ (known-object _) e);
-  of_ray = λ κs a r e. f _ (known-answer _ _ (known-object _) e);
-  of_line = λ κs a r e. f _ (known-answer _ _ (known-object _) e);
-  of-side = λ κs a r e. f _ (known-answer _ _ (known-object _) e);
-  of_object_refusal = λ κs o r e. f _ (subst Known (sym e.0) (known-object o));
-  of_list_refusal = λ κs l r e. f _ (subst Known (sym e) (known-list l.now));
-  of_check_point = λ κs p r e. f _ (subst Known (sym e) (known-point p));
-  of_ends_of = λ κs o r e. f _ (known-answer _ _ (known-object o) e);
-  of_order_points = λ κs p q r e. f _ (known-answer _ _ (known-order p q) e);
-  of_turn_points = λ κs p q s r e. f _ (known-answer _ _ (known-turn p q s) e);
-  of_side_of_circle = λ κs p q s u r e. f _ (known-answer _ _ (known-circle p q s u) e);
-  of_side_of = λ κs o s r e. f _ (known-answer _ _ (known-side-sign o s) e);
-  of_cross = λ κs a b r e. f _ (known-answer _ _ (known-crossing a b) e);
-  of_cross_kept = λ κs a b joints r e. f _ (known-answer _ _ (known-crossing a b) e);
-  of_read_number = λ κs bytes r e. f _ (subst Known (sym (ap (λ (x : Number). x.refusal) e.0)) (number-known bytes.now));
-  of_check_drawing = λ κs bytes r e. f _ (subst Known (sym e) (known_bytes bytes.now));
-  of_read_drawing = λ κs bytes out after r e. f _ (known_read bytes.now out (ap (λ (x : Read). x.refusal) e.0));
-  of_form_of = λ κs bytes r e. f _ (form-known bytes.now e);
-  of_write_drawing = λ κs form list out after r e. f _ (known_written form list.now out (ap (λ (x : Written). x.refusal) e.0));
-  of_move_drawing = λ κs bytes form out after r e. f _ (known-moved form bytes.now out (ap (λ (x : Written). x.refusal) e.0));
-  of_step = λ κs bytes place r e. f _ (subst (λ (x : Stepped). ItemKnown x.item) (sym e) (item-known bytes.now place));
-  of_next = λ κs reader r x e. f _ (subst (λ (t : Taken). ItemKnown t.item) (sym e) (item-known reader.bytes.now reader.place));
-  of_list_one = λ κs list i joints out after r e.
-      f _ (known-lent _ (short out (sharing_with joints list.now i * row_width)) (known-one list.now i) (ap (λ (x : Listed). x.refusal) e.0));
-  of_list_all = λ κs list joints out after r e.
-      f _ (known-lent _ (short out (sharing joints list.now * row_width)) (known-list list.now) (ap (λ (x : Listed). x.refusal) e.0));
-  of_list_near = λ κs list joints out after r e.
-      f _ (known-lent _ (short out (sharing joints list.now * row_width)) (known-list list.now) (ap (λ (x : Listed). x.refusal) e.0));
-  of_put_rows = λ κs rows out after r e.
-      f _ (known-lent _ (short out (length (rows_text rows.now))) (known-rows rows.now) (ap (λ (x : Put). x.refusal) e.0));
-  of_put_objects = λ κs n out after r e.
-      f _ (known-lent _ (short out (length (count_line objects_word (pos n)))) (one_of 0 refl) (ap (λ (x : Put). x.refusal) e.0));
-  of_put_count = λ κs n out after r e.
-      f _ (known-lent _ (short out (length (count_line rows_word (pos n)))) (one_of 0 refl) (ap (λ (x : Put). x.refusal) e.0));
-  of_put_refused = λ κs n out after r e.
-      f _ (known-lent _ (short out (length (count_line refused_word n))) (one_of 0 refl) (ap (λ (x : Put). x.refusal) e.0));
-  of_place_of = λ κs p r e. f _ (known-told _ _ (known-point p) (place-told p) e);
-  of_box_of = λ κs l r e. f _ (known-told _ _ (known-list l.now) refl e);
+  of_segment = λ κs a r e. f _ (known r);
+  of_ray = λ κs a r e. f _ (known r);
+  of_line = λ κs a r e. f _ (known r);
+  of-side = λ κs a r e. f _ (known r);
+  of_check_object = λ κs o r e. f _ (known r);
+  of_check_list = λ κs l r e. f _ (known r);
+  of_check_point = λ κs p r e. f _ (known r);
+  of_ends_of = λ κs o r e. f _ (known r);
+  of_order_points = λ κs p q r e. f _ (known r);
+  of_turn_points = λ κs p q s r e. f _ (known r);
+  of_side_of_circle = λ κs p q s u r e. f _ (known r);
+  of_side_of = λ κs o s r e. f _ (known r);
+  of_cross = λ κs a b r e. f _ (known r);
+  of_cross_kept = λ κs a b joints r e. f _ (known r);
+  of_read_number = λ κs bytes r e. f _ (known r);
+  of_check_drawing = λ κs bytes r e. f _ (known r);
+  of_read_drawing = λ κs bytes out after r e. f _ (known-filled r);
+  of_form_of = λ κs bytes r e. f _ (known r);
+  of_write_drawing = λ κs form list out after r e. f _ (known-filled r);
+  of_move_drawing = λ κs bytes form out after r e. f _ (known-filled r);
+  of_step = λ κs bytes place r e. f _ (known r.item);
+  of_next = λ κs reader r x e. f _ (known r.item);
+  of_list_one = λ κs list i joints out after r e. f _ (known-filled r);
+  of_list_all = λ κs list joints out after r e. f _ (known-filled r);
+  of_list_near = λ κs list joints out after r e. f _ (known-filled r);
+  of_put_rows = λ κs rows out after r e. f _ (known-filled r);
+  of_put_objects = λ κs n out after r e. f _ (known-filled r);
+  of_put_count = λ κs n out after r e. f _ (known-filled r);
+  of_put_refused = λ κs n out after r e. f _ (known-filled r);
+  of_place_of = λ κs p r e. f _ (known r);
+  of_box_of = λ κs l r e. f _ (known r);
   of_viewer_check = λ κs bytes r e. f _ (subst Known (sym e) (known_bytes bytes.now));
   of_viewer_side = λ κs bytes i x y r e. f _ (subst (λ (z : ℤ). Known (side_refusal_in z)) (sym e) (side-known bytes.now i x y));
   of_trial_list = λ κs list joints out after r e.
@@ -257,7 +245,7 @@ calls P f = record {
   of_trial_move = λ κs bytes form out after r e. f _ (known-moved (form_from form) bytes.now out (ap (λ (x : TwoNumbers). x.refusal) e.0));
   of_trial_number = λ κs bytes r e. f _ (subst Known (sym (ap (λ (x : ThreeNumbers). x.refusal) e)) (number-known bytes.now));
   of_trial_place = λ κs a r e. f _ (subst Known (sym (ap (λ (x : SixNumbers). x.refusal) e ∙ told-refusal _ _ (place-told _))) (known-point _));
-  of_trial_box = λ κs l r e. f _ (subst Known (sym (ap (λ (x : SixNumbers). x.refusal) e ∙ told-refusal _ _ refl)) (known-list l.now));
+  of_trial_box = λ κs l r e. f _ (subst Known (sym (ap (λ (x : SixNumbers). x.refusal) e ∙ told-refusal _ _ (box-told _))) (known-list l.now));
   of_spot_ends = λ κs o r e. f _ (known-shown _ _ (known-object o) (ap (λ (x : TwoEnds). x.refusal) e));
   of_spot_order = λ κs p q r e. f _ (known-shown _ _ (known-order p q) (ap (λ (x : Answer). x.refusal) e));
   of_spot_side = λ κs o s r e. f _ (known-shown _ _ (known-side-sign o s) (ap (λ (x : Answer). x.refusal) e));
@@ -278,10 +266,12 @@ no-twelve = never _ refl
 
 -- ---- the point of a crossing, of the code
 
-pub once-taken : (κs : Lfts 0) (a b : Object) (e : Point) → cross.Post κs (a, (b, tt)) (crossing.Once e) (a, (b, tt)) → point_refusal e ≡ pos 0
+pub once-taken : (κs : Lfts 0) (a b : Object) (e : Point) → cross.Post κs (a, (b, tt)) (Ok (crossing.Once e)) (a, (b, tt)) → point_refusal e ≡ pos 0
 unfolding point_refusal
 once-taken κs a b e h =
     let z : crossing_refusal a b ≡ pos 0 = sym (refusal-in (crossing_refusal a b) (meeting_numbers (crossing_of a b))) ∙ sym (ap refusal_in h) in
     let taken = cross-taken a b z in
-    let found = met_by (crossing.Once e) (crossing_of a b) (h ∙ accepted _ z) in
+    let said : pos 0 ∷ crossing_numbers (crossing.Once e) ≡ pos 0 ∷ meeting_numbers (crossing_of a b) = h ∙ accepted _ z in
+    let same : crossing_numbers (crossing.Once e) ≡ meeting_numbers (crossing_of a b) = cc in
+    let found = met_by (crossing.Once e) (crossing_of a b) same in
     simp (crossing-is-point taken.0 taken.1 (sym found))

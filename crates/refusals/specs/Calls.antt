@@ -1,8 +1,8 @@
 -- Something said of the number that each public call refuses by, 0 where it does not refuse: whatever it is called with, of any answer that
--- meets its contract (`Post`). The calls that never refuse have no line: those of `whole` and `decimal`, a
--- given point, a corner, the reach test, the test whether p and q are equal, an object of a list and what is put into lent cells of `sheet`,
--- stored_size and put_stored of `number` and the call of `trial` for it, start and open_reader of `store`.
-use Rattle.std.specs.Prelude.{◌≡◌, Bool, cond, ◌||◌, List, ℕ, ℤ, pos, ◌-ℤ◌}
+-- meets its contract (`Post`). The calls that never refuse have no line: those of `whole` and `decimal`; of `sheet` a given point, a corner, the
+-- reach test, the test whether p and q are equal, an object of a list, what is put into lent cells and the length that they need; stored_size and
+-- put_stored of `number` and the call of `trial` for it; start and open_reader of `store`; the box around nothing of `screen`.
+use Rattle.std.specs.Prelude.{◌≡◌, Bool, cond, ◌||◌, List, ℕ, ℤ, pos, ◌-ℤ◌, Option, Result, Ok, Err}
 use Rattle.std.specs.Int.Signed.{lt_z}
 use contract.Lifetimes.{Lfts}
 use Rattle.std.specs.Borrow.{Bor, MutBor}
@@ -10,30 +10,24 @@ use denote.Triple.Clauses.{AtExit}
 use Rattle.whole.specs.Flag.{eq_z}
 use Rattle.sheet.specs.declared.Object.{Object}
 use Rattle.sheet.specs.declared.Point.{Point}
-use Rattle.sheet.specs.declared.Made.{Made}
 use Rattle.sheet.specs.declared.Ends.{Ends}
-use Rattle.sheet.specs.declared.Signed.{Signed}
 use Rattle.sheet.specs.declared.Crossing.{Crossing}
+use Rattle.sheet.specs.declared.refusal.Refusal.{Refusal}
+use Rattle.sheet.specs.declared.refusal.Unfilled.{Unfilled}
 use Rattle.sheet.specs.Points.{within}
-use Rattle.sheet.specs.Answers.{refusal_in, made_says, ends_say, signed_says, crossing_says}
+use Rattle.sheet.specs.Refused.{refused_by, unfilled_no}
 use Rattle.number.specs.declared.Number.{Number}
 use Rattle.store.specs.declared.Form.{Form}
 use Rattle.store.specs.declared.Form.TheVariants.{Old, New}
-use Rattle.store.specs.declared.Formed.{Formed}
 use Rattle.store.specs.declared.Read.{Read}
-use Rattle.store.specs.declared.Written.{Written}
 use Rattle.store.specs.declared.Bookmark.{Bookmark}
 use Rattle.store.specs.declared.Stepped.{Stepped}
 use Rattle.store.specs.declared.Reader.{Reader}
 use Rattle.store.specs.declared.Taken.{Taken}
-use Rattle.store.specs.Answers.{form_number, formed_says}
-use Rattle.store.specs.Reader.{item_says}
+use Rattle.store.specs.Answers.{form_number}
 use Rattle.listing.specs.declared.Listed.{Listed}
-use Rattle.rowtext.specs.declared.Put.{Put}
 use Rattle.screen.specs.declared.OnScreen.{OnScreen}
-use Rattle.screen.specs.declared.Boxed.{Boxed}
-use Rattle.screen.specs.Places.{place_says}
-use Rattle.screen.specs.Boxes.{boxed_says}
+use Rattle.screen.specs.declared.SheetBox.{SheetBox}
 use Rattle.trial.specs.declared.RowCounts.{RowCounts}
 use Rattle.trial.specs.declared.TwoNumbers.{TwoNumbers}
 use Rattle.trial.specs.declared.ThreeNumbers.{ThreeNumbers}
@@ -44,8 +38,8 @@ use Rattle.sheet.proofs.Object.segment.Reads as segment
 use Rattle.sheet.proofs.Object.ray.Reads as ray
 use Rattle.sheet.proofs.Object.line.Reads as line
 use Rattle.sheet.proofs.Object.side.Reads as side
-use Rattle.sheet.proofs.object_refusal.Reads as object-refusal
-use Rattle.sheet.proofs.lists.list_refusal.Reads as list-refusal
+use Rattle.sheet.proofs.check_object.Reads as check-object
+use Rattle.sheet.proofs.lists.check_list.Reads as check-list
 use Rattle.kernel.proofs.points.check_point.Reads as check-point
 use Rattle.kernel.proofs.ends.ends_of.Reads as ends_of
 use Rattle.kernel.proofs.signs.order_points.Reads as order-points
@@ -109,59 +103,64 @@ side_refusal_in r = behind_hundred (within (pos 1) r) r
 abbrev pub form_refusal_in : ℤ → ℤ
 form_refusal_in r = behind_hundred (eq_z r (form_number Old) || eq_z r (form_number New)) r
 
+-- what a call that fills lent cells refuses by, 0 where it does not refuse
+abbrev pub unfilled_by : {A : Type 0} → Result A Unfilled → ℤ
+unfilled_by (Ok a) = pos 0
+unfilled_by (Err u) = unfilled_no u
+
 pub record Calls (P : ℤ → Type 0) : Type 0 where
   -- sheet: objects made, objects and lists checked
-  pub of_segment : (κs : Lfts 0) (a : Five) (r : Made) → segment.Post κs a r a → P (refusal_in (made_says r))
-  pub of_ray : (κs : Lfts 0) (a : Five) (r : Made) → ray.Post κs a r a → P (refusal_in (made_says r))
-  pub of_line : (κs : Lfts 0) (a : Five) (r : Made) → line.Post κs a r a → P (refusal_in (made_says r))
-  pub of-side : (κs : Lfts 0) (a : Two) (r : Made) → side.Post κs a r a → P (refusal_in (made_says r))
-  pub of_object_refusal : (κs : Lfts 0) (o : Object) (r : ℤ) → object-refusal.Post κs (o, tt) r (o, tt) → P r
-  pub of_list_refusal : (κs : Lfts 1) (l : Bor (List ℤ)) (r : ℤ) → list-refusal.Post κs (l, tt) r (l, tt) → P r
+  pub of_segment : (κs : Lfts 0) (a : Five) (r : Result Object Refusal) → segment.Post κs a r a → P (refused_by r)
+  pub of_ray : (κs : Lfts 0) (a : Five) (r : Result Object Refusal) → ray.Post κs a r a → P (refused_by r)
+  pub of_line : (κs : Lfts 0) (a : Five) (r : Result Object Refusal) → line.Post κs a r a → P (refused_by r)
+  pub of-side : (κs : Lfts 0) (a : Two) (r : Result Object Refusal) → side.Post κs a r a → P (refused_by r)
+  pub of_check_object : (κs : Lfts 0) (o : Object) (r : Result Unit Refusal) → check-object.Post κs (o, tt) r (o, tt) → P (refused_by r)
+  pub of_check_list : (κs : Lfts 1) (l : Bor (List ℤ)) (r : Result Unit Refusal) → check-list.Post κs (l, tt) r (l, tt) → P (refused_by r)
   -- kernel: checks, ends, signs, crossing
-  pub of_check_point : (κs : Lfts 0) (p : Point) (r : ℤ) → check-point.Post κs (p, tt) r (p, tt) → P r
-  pub of_ends_of : (κs : Lfts 0) (o : Object) (r : Ends) → ends_of.Post κs (o, tt) r (o, tt) → P (refusal_in (ends_say r))
-  pub of_order_points : (κs : Lfts 0) (p q : Point) (r : Signed) → order-points.Post κs (p, (q, tt)) r (p, (q, tt)) → P (refusal_in (signed_says r))
-  pub of_turn_points : (κs : Lfts 0) (p q s : Point) (r : Signed)
-      → turn-points.Post κs (p, (q, (s, tt))) r (p, (q, (s, tt))) → P (refusal_in (signed_says r))
-  pub of_side_of : (κs : Lfts 0) (o : Object) (s : Point) (r : Signed) → side-of.Post κs (o, (s, tt)) r (o, (s, tt)) → P (refusal_in (signed_says r))
-  pub of_side_of_circle : (κs : Lfts 0) (p q s u : Point) (r : Signed)
-      → side-of-circle.Post κs (p, (q, (s, (u, tt)))) r (p, (q, (s, (u, tt)))) → P (refusal_in (signed_says r))
-  pub of_cross : (κs : Lfts 0) (a b : Object) (r : Crossing) → cross.Post κs (a, (b, tt)) r (a, (b, tt)) → P (refusal_in (crossing_says r))
-  pub of_cross_kept : (κs : Lfts 0) (a b : Object) (joints : Bool) (r : Crossing)
-      → cross-kept.Post κs (a, (b, (joints, tt))) r (a, (b, (joints, tt))) → P (refusal_in (crossing_says r))
+  pub of_check_point : (κs : Lfts 0) (p : Point) (r : Result Unit Refusal) → check-point.Post κs (p, tt) r (p, tt) → P (refused_by r)
+  pub of_ends_of : (κs : Lfts 0) (o : Object) (r : Result Ends Refusal) → ends_of.Post κs (o, tt) r (o, tt) → P (refused_by r)
+  pub of_order_points : (κs : Lfts 0) (p q : Point) (r : Result ℤ Refusal) → order-points.Post κs (p, (q, tt)) r (p, (q, tt)) → P (refused_by r)
+  pub of_turn_points : (κs : Lfts 0) (p q s : Point) (r : Result ℤ Refusal)
+      → turn-points.Post κs (p, (q, (s, tt))) r (p, (q, (s, tt))) → P (refused_by r)
+  pub of_side_of : (κs : Lfts 0) (o : Object) (s : Point) (r : Result ℤ Refusal) → side-of.Post κs (o, (s, tt)) r (o, (s, tt)) → P (refused_by r)
+  pub of_side_of_circle : (κs : Lfts 0) (p q s u : Point) (r : Result ℤ Refusal)
+      → side-of-circle.Post κs (p, (q, (s, (u, tt)))) r (p, (q, (s, (u, tt)))) → P (refused_by r)
+  pub of_cross : (κs : Lfts 0) (a b : Object) (r : Result Crossing Refusal) → cross.Post κs (a, (b, tt)) r (a, (b, tt)) → P (refused_by r)
+  pub of_cross_kept : (κs : Lfts 0) (a b : Object) (joints : Bool) (r : Result Crossing Refusal)
+      → cross-kept.Post κs (a, (b, (joints, tt))) r (a, (b, (joints, tt))) → P (refused_by r)
   -- number: a stored number
-  pub of_read_number : (κs : Lfts 1) (bytes : Bor (List ℕ)) (r : Number) → read_number.Post κs (bytes, tt) r (bytes, tt) → P r.refusal
+  pub of_read_number : (κs : Lfts 1) (bytes : Bor (List ℕ)) (r : Result Number Refusal) → read_number.Post κs (bytes, tt) r (bytes, tt) → P (refused_by r)
   -- store: drawings checked, read, told by their form, written and moved, and read one object a call
-  pub of_check_drawing : (κs : Lfts 1) (bytes : Bor (List ℕ)) (r : ℤ) → check-drawing.Post κs (bytes, tt) r (bytes, tt) → P r
-  pub of_read_drawing : (κs : Lfts 2) (bytes : Bor (List ℕ)) (out after : MutBor (List ℤ)) (r : Read)
-      → read-drawing.Post κs (bytes, (out, tt)) r (bytes, (after, tt)) → P r.refusal
-  pub of_form_of : (κs : Lfts 1) (bytes : Bor (List ℕ)) (r : Formed) → form_of.Post κs (bytes, tt) r (bytes, tt) → P (refusal_in (formed_says r))
-  pub of_write_drawing : (κs : Lfts 2) (form : Form) (list : Bor (List ℤ)) (out after : MutBor (List ℕ)) (r : Written)
-      → write-drawing.Post κs (form, (list, (out, tt))) r (form, (list, (after, tt))) → P r.refusal
-  pub of_move_drawing : (κs : Lfts 2) (bytes : Bor (List ℕ)) (form : Form) (out after : MutBor (List ℕ)) (r : Written)
-      → move-drawing.Post κs (bytes, (form, (out, tt))) r (bytes, (form, (after, tt))) → P r.refusal
+  pub of_check_drawing : (κs : Lfts 1) (bytes : Bor (List ℕ)) (r : Result Unit Refusal) → check-drawing.Post κs (bytes, tt) r (bytes, tt) → P (refused_by r)
+  pub of_read_drawing : (κs : Lfts 2) (bytes : Bor (List ℕ)) (out after : MutBor (List ℤ)) (r : Result Read Unfilled)
+      → read-drawing.Post κs (bytes, (out, tt)) r (bytes, (after, tt)) → P (unfilled_by r)
+  pub of_form_of : (κs : Lfts 1) (bytes : Bor (List ℕ)) (r : Result Form Refusal) → form_of.Post κs (bytes, tt) r (bytes, tt) → P (refused_by r)
+  pub of_write_drawing : (κs : Lfts 2) (form : Form) (list : Bor (List ℤ)) (out after : MutBor (List ℕ)) (r : Result ℕ Unfilled)
+      → write-drawing.Post κs (form, (list, (out, tt))) r (form, (list, (after, tt))) → P (unfilled_by r)
+  pub of_move_drawing : (κs : Lfts 2) (bytes : Bor (List ℕ)) (form : Form) (out after : MutBor (List ℕ)) (r : Result ℕ Unfilled)
+      → move-drawing.Post κs (bytes, (form, (out, tt))) r (bytes, (form, (after, tt))) → P (unfilled_by r)
   pub of_step : (κs : Lfts 1) (bytes : Bor (List ℕ)) (place : Bookmark) (r : Stepped)
-      → step.Post κs (bytes, (place, tt)) r (bytes, (place, tt)) → P (refusal_in (item_says r.item))
-  pub of_next : (κs : Lfts 1) (reader : Reader) (r : Taken) (e : AtExit next.ended κs) → NextPost κs reader r e → P (refusal_in (item_says r.item))
+      → step.Post κs (bytes, (place, tt)) r (bytes, (place, tt)) → P (refused_by r.item)
+  pub of_next : (κs : Lfts 1) (reader : Reader) (r : Taken) (e : AtExit next.ended κs) → NextPost κs reader r e → P (refused_by r.item)
   -- listing: rows of one object, and of all pairs
-  pub of_list_one : (κs : Lfts 2) (list : Bor (List ℤ)) (i : ℕ) (joints : Bool) (out after : MutBor (List ℤ)) (r : Listed)
-      → list-one.Post κs (list, (i, (joints, (out, tt)))) r (list, (i, (joints, (after, tt)))) → P r.refusal
-  pub of_list_all : (κs : Lfts 2) (list : Bor (List ℤ)) (joints : Bool) (out after : MutBor (List ℤ)) (r : Listed)
-      → list_all.Post κs (list, (joints, (out, tt))) r (list, (joints, (after, tt))) → P r.refusal
-  pub of_list_near : (κs : Lfts 2) (list : Bor (List ℤ)) (joints : Bool) (out after : MutBor (List ℤ)) (r : Listed)
-      → list-near.Post κs (list, (joints, (out, tt))) r (list, (joints, (after, tt))) → P r.refusal
+  pub of_list_one : (κs : Lfts 2) (list : Bor (List ℤ)) (i : ℕ) (joints : Bool) (out after : MutBor (List ℤ)) (r : Result Listed Unfilled)
+      → list-one.Post κs (list, (i, (joints, (out, tt)))) r (list, (i, (joints, (after, tt)))) → P (unfilled_by r)
+  pub of_list_all : (κs : Lfts 2) (list : Bor (List ℤ)) (joints : Bool) (out after : MutBor (List ℤ)) (r : Result Listed Unfilled)
+      → list_all.Post κs (list, (joints, (out, tt))) r (list, (joints, (after, tt))) → P (unfilled_by r)
+  pub of_list_near : (κs : Lfts 2) (list : Bor (List ℤ)) (joints : Bool) (out after : MutBor (List ℤ)) (r : Result Listed Unfilled)
+      → list-near.Post κs (list, (joints, (out, tt))) r (list, (joints, (after, tt))) → P (unfilled_by r)
   -- rowtext: the lines of a listing
-  pub of_put_rows : (κs : Lfts 2) (rows : Bor (List ℤ)) (out after : MutBor (List ℕ)) (r : Put)
-      → put-rows.Post κs (rows, (out, tt)) r (rows, (after, tt)) → P r.refusal
-  pub of_put_objects : (κs : Lfts 1) (n : ℕ) (out after : MutBor (List ℕ)) (r : Put)
-      → put-objects.Post κs (n, (out, tt)) r (n, (after, tt)) → P r.refusal
-  pub of_put_count : (κs : Lfts 1) (n : ℕ) (out after : MutBor (List ℕ)) (r : Put)
-      → put_count.Post κs (n, (out, tt)) r (n, (after, tt)) → P r.refusal
-  pub of_put_refused : (κs : Lfts 1) (n : ℤ) (out after : MutBor (List ℕ)) (r : Put)
-      → Put-refused.Post κs (n, (out, tt)) r (n, (after, tt)) → P r.refusal
+  pub of_put_rows : (κs : Lfts 2) (rows : Bor (List ℤ)) (out after : MutBor (List ℕ)) (r : Result ℕ Unfilled)
+      → put-rows.Post κs (rows, (out, tt)) r (rows, (after, tt)) → P (unfilled_by r)
+  pub of_put_objects : (κs : Lfts 1) (n : ℕ) (out after : MutBor (List ℕ)) (r : Result ℕ Unfilled)
+      → put-objects.Post κs (n, (out, tt)) r (n, (after, tt)) → P (unfilled_by r)
+  pub of_put_count : (κs : Lfts 1) (n : ℕ) (out after : MutBor (List ℕ)) (r : Result ℕ Unfilled)
+      → put_count.Post κs (n, (out, tt)) r (n, (after, tt)) → P (unfilled_by r)
+  pub of_put_refused : (κs : Lfts 1) (n : ℤ) (out after : MutBor (List ℕ)) (r : Result ℕ Unfilled)
+      → Put-refused.Post κs (n, (out, tt)) r (n, (after, tt)) → P (unfilled_by r)
   -- screen: places and boxes
-  pub of_place_of : (κs : Lfts 0) (p : Point) (r : OnScreen) → place_of.Post κs (p, tt) r (p, tt) → P (refusal_in (place_says r).wholes)
-  pub of_box_of : (κs : Lfts 1) (l : Bor (List ℤ)) (r : Boxed) → box_of.Post κs (l, tt) r (l, tt) → P (refusal_in (boxed_says r).wholes)
+  pub of_place_of : (κs : Lfts 0) (p : Point) (r : Result OnScreen Refusal) → place_of.Post κs (p, tt) r (p, tt) → P (refused_by r)
+  pub of_box_of : (κs : Lfts 1) (l : Bor (List ℤ)) (r : Result (Option SheetBox) Refusal) → box_of.Post κs (l, tt) r (l, tt) → P (refused_by r)
   -- viewer: the calls for C
   pub of_viewer_check : (κs : Lfts 1) (bytes : Bor (List ℕ)) (r : ℤ) → viewer-check.Post κs (bytes, tt) r (bytes, tt) → P r
   pub of_viewer_side : (κs : Lfts 1) (bytes : Bor (List ℕ)) (i x y r : ℤ)

@@ -1,27 +1,35 @@
 -- Laws of what a call answers and leaves. To cite:
 --   end-as       how a call that puts a text ends, with the text in other words
+--   told-one     answers that are told by the same numbers are equal
 --   put-ends     what such an end answers, and what is in the bytes then
 --   clipped-given      a length that is answered is cut at the largest before a refusal makes it 0, or behind: it is the same
 --   no_rows, rows_taken   a list that is no list of rows is refused, and one that is is not
 --   line-short   how long a line can be, by its number (decimal's count-short, signed-short)
 --   line-said, rows-said   the length needed is answered as it is: of a line, and of a list of fewer than 2^59 numbers
 -- Assumes nothing.
-use Rattle.std.specs.Prelude.{◌≡◌, refl, Bool, true, false, cond, List, ℕ, ◌%◌, ◌^◌, ◌≤◌, ◌<◌, ℤ, pos, length}
-use Rattle.std.proofs.Common.{sym, subst, arith, length-append, eq-eqb, ne_eqb}
+use Rattle.std.specs.Prelude.{◌≡◌, refl, Bool, true, false, cond, List, ℕ, ◌%◌, ◌^◌, ◌≤◌, ◌<◌, ℤ, pos, length, Result, Ok, Err}
+use Rattle.std.proofs.Common.{sym, ap, subst, arith, length-append, eq-eqb, ne_eqb}
 use Rattle.whole.specs.Flag.{eq_z}
 use Rattle.sheet.specs.Lent.{length_given, filled, clipped}
 use Rattle.sheet.specs.LentLaws.{clipped-is}
 use Rattle.sheet.specs.Lists.{row_width}
+use Rattle.sheet.specs.declared.refusal.Unfilled.{Unfilled}
+use Rattle.sheet.specs.RefusedLaws.{unfilled-one, unfilled-zero}
 use Rattle.decimal.specs.Decimal.{signed, number_most}
 use Rattle.decimal.specs.DecimalLaws.{AllFit}
-use Rattle.rowtext.specs.declared.Put.{Put}
 use Rattle.rowtext.specs.Text.{rows_of, rows_text, count_line}
 use Rattle.rowtext.specs.TextLaws.{rows_short}
-use Rattle.rowtext.specs.Put.{line_most, rows_refusal, put_answer}
+use Rattle.rowtext.specs.Put.{Put, line_most, rows_refusal, put_told, put_answer}
 use Rattle.rowtext.specs.PutEnd.{PutEnd}
 
 pub end-as : {n : ℤ} {text other lent after : List ℕ} {r : Put} → PutEnd n text lent r after → text ≡ other → PutEnd n other lent r after
 end-as {n} {text} {other} {lent} {after} {r} e q = subst (λ (t : List ℕ). PutEnd n t lent r after) q e
+
+pub told-one : (r s : Result ℕ Unfilled) → put_told r ≡ put_told s → r ≡ s
+told-one (Ok n) (Ok m) e = ap Ok (ap (λ (p : Put). p.length) e)
+told-one (Ok n) (Err u) e = absurd (unfilled-zero u (ap (λ (p : Put). p.refusal) (sym e)))
+told-one (Err u) (Ok n) e = absurd (unfilled-zero u (ap (λ (p : Put). p.refusal) e))
+told-one (Err u) (Err v) e = ap Err (unfilled-one u v (ap (λ (p : Put). p.refusal) e) (ap (λ (p : Put). p.length) e))
 
 pub put-ends : {n : ℤ} {text lent after : List ℕ} {r : Put} → PutEnd n text lent r after → (r ≡ put_answer n text lent) × (after ≡ filled n text lent)
 put-ends e = ((λ i. record { refusal = e.refusal i; length = e.given i }), e.cells)

@@ -1,17 +1,19 @@
 -- Laws of the printed text. To cite:
 --   shared-point, shared-many   what two objects share, by the third number of the row
 --   rows_more                   one row more at the end
+--   next-row, last-row          the next numbers are row k, and there are so many; where fewer than a row are left, all rows are done
 --   row-short, rows_short       a row of i64 numbers is at most row_most bytes long, and k rows k times that
 --   count-line                  the line of a word and a count
 -- Assumes nothing.
-use Rattle.std.specs.Prelude.{◌≡◌, Bool, true, false, cond, List, [], ◌∷◌, ◌++◌, ℕ, zero, suc, ◌+◌, ◌*◌, ◌≤◌, ℤ, pos, length, take, drop, get_or}
-use Rattle.std.proofs.Common.{sym, ap, add-one, arith, length-append}
+use Rattle.std.specs.Prelude.{◌≡◌, Bool, true, false, cond, List, [], ◌∷◌, ◌++◌, ℕ, zero, suc, ◌+◌, ◌*◌, ◌≤◌, ◌<◌, ℤ, pos, length, take, drop, get_or}
+use Rattle.std.proofs.Common.{sym, ap, ◌∙◌, add-one, arith, length-append, length-drop}
+use Rattle.std.proofs.lemmas.List.{take_at, drop_at, drop-drop}
 use Rattle.whole.specs.Flag.{eq_z}
 use Rattle.whole.specs.Tests.{eq-eq_z, ne-eq_z}
 use Rattle.sheet.specs.Lists.{share_width, row_width}
 use Rattle.decimal.specs.Decimal.{newline, blank, sized, numbers, field_most}
 use Rattle.decimal.specs.DecimalLaws.{signed-short, signed-pos, AllFit, fits-drop, fits-take, numbers-short}
-use Rattle.rowtext.specs.Text.{point_word, many_word, shared_text, row_at, row_text, rows_to, count_line}
+use Rattle.rowtext.specs.Text.{point_word, many_word, shared_text, row_at, row_text, rows_to, rows_of, count_line}
 use Rattle.rowtext.specs.Put.{row_most}
 
 -- ---- rows
@@ -26,6 +28,21 @@ module _ (r : List ℤ) where
 pub rows_more : (l : List ℤ) (k : ℕ) → rows_to l (k + 1) ≡ rows_to l k ++ row_text (row_at l k)
 unfolding rows_to
 rows_more l k = ap (rows_to l) (add-one k)
+
+-- what is left of a list behind k rows is another row and the rest
+pub next-row :
+    (l : List ℤ) (k : ℕ) {row rest : List ℤ} → drop (k * row_width) l ≡ row ++ rest → length row ≡ row_width
+    → (row ≡ row_at l k) × (rest ≡ drop ((k + 1) * row_width) l) × ((k + 1) * row_width ≤ length l)
+next-row l k {row} {rest} e w =
+    let more : k * row_width + row_width ≡ (k + 1) * row_width = omega arith in (
+      sym (ap (take row_width) e ∙ take_at row rest row_width w),
+      sym (ap (λ (n : ℕ). drop n l) (sym more) ∙ sym (drop-drop row_width (k * row_width) l) ∙ ap (drop row_width) e ∙ drop_at row rest row_width w),
+      omega (arith, ap length e, length-drop (k * row_width) l, length-append row rest),
+    )
+
+-- nothing but a part of a row is left behind k rows
+pub last-row : (l : List ℤ) (k : ℕ) → k * row_width ≤ length l → length (drop (k * row_width) l) < row_width → k ≡ rows_of l
+last-row l k h m = omega (arith, length-drop (k * row_width) l)
 
 shared-short : {r : List ℤ} → AllFit r → length (shared_text r) ≤ 6 + 5 * field_most
 shared-short {r} f = go (eq_z (get_or r 2 (pos 0)) (pos 1)) (numbers-short 5 (fits-drop 3 f))

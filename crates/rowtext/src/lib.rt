@@ -1,29 +1,22 @@
 // The text that the listing program prints, put into lent bytes: rows, and lines with a count or a refusal. The definitions are in
-// specs/Text.antt, what a call answers in specs/Put.antt, words and numbers in decimal.
+// specs/Text.antt, what a call answers in specs/Put.antt, words and numbers in decimal. A call answers the length of its text.
 //
-// Each text is put twice by the same functions: into no bytes, which gives its length, and then, where it fits, into the lent ones.
+// Each text is put twice by the same function (`put_fitting`): into no bytes, which gives its length, and then, where it fits, into the lent ones.
 #![tactic(auto)]
 
-ghost use Rattle.std.specs.Prelude.{◌≡◌, [], ◌∷◌, ◌++◌, ◌*◌, ◌≤◌, pos, length};
+ghost use Rattle.std.specs.Prelude.{◌≡◌, List, [], ◌∷◌, ◌++◌, ℕ, pos, length};
 ghost use Rattle.sheet.specs.Lent.{filled, Wrote};
 ghost use Rattle.sheet.specs.Lists.{row_width};
 ghost use Rattle.decimal.specs.Decimal.{newline, sized};
-ghost use Rattle.rowtext.specs.Text.{objects_word, rows_word, refused_word, shared_text, row_text, rows_to, rows_text, count_line};
-ghost use Rattle.rowtext.specs.Put.{row_most, line_most, rows_refusal, put_answer};
-ghost use Rattle.rowtext.specs.PutEnd.{PutEnd};
+ghost use Rattle.rowtext.specs.Text.{objects_word, rows_word, refused_word, shared_text, row_text, rows_text, count_line};
+ghost use Rattle.rowtext.specs.Put.{row_most, line_most, rows_refusal, put_told, put_answer};
+ghost use Rattle.rowtext.specs.PutEnd.{PutEnd, Puts};
 
 use decimal::{put_fields, put_number, put_sized, put_text};
 use sheet::lent::put_byte;
 use sheet::lists::{ROW_WIDTH, SHARE_WIDTH};
-use sheet::refusal::{LIST_LENGTH, NO_ROOM};
+use sheet::refusal::{Refusal, Unfilled};
 use whole::size;
-
-// 0 and the length of the text, or the number of the refusal. With 10 comes the length needed.
-#[derive(Clone, Copy)]
-pub struct Put {
-    pub refusal: i64,
-    pub length: usize,
-}
 
 // The most bytes that the text of a row takes, whatever its numbers are.
 pub const ROW_MOST: usize = 195;
@@ -55,48 +48,40 @@ fn put_row(row: &[i64], out: &mut [u8], at: usize) -> usize
     put_byte(b'\n', out, tags)
 }
 
-fn put_all(list: &[i64], rows: usize, out: &mut [u8]) -> usize
-    requires { rows * row_width ≤ length list.now }
-    ensures { Wrote out.old out.new 0 result (rows_to list.now rows) }
+// The text of all whole rows of a list.
+fn put_all(rows: &[i64], out: &mut [u8]) -> usize
+    ensures { Wrote out.old out.new 0 result (rows_text rows.now) }
 {
-    let mut k = 0;
     let mut next = 0;
-    while k < rows {
-        let from = k * ROW_WIDTH;
-        next = put_row(&list[from..from + ROW_WIDTH], out, next);
-        k += 1;
+    for row in rows.chunks_exact(ROW_WIDTH) {
+        next = put_row(row, out, next);
     }
     next
 }
 
+// Puts a text into lent bytes that have room for it, and answers its length.
+fn put_fitting<F: Fn(&mut [u8]) -> usize>(text: F, out: &mut [u8]) -> Result<usize, Unfilled>
+    requires { F.IsAlwaysCallable text }
+    ensures { (bytes : List ℕ) → Puts F.Fn text bytes → PutEnd (pos 0) bytes out.old (put_told result) out.new }
+{
+    let mut none = [0u8; 0];
+    let needed = text(&mut none);
+    if out.len() < needed {
+        return Err(Unfilled::NoRoom(needed));
+    }
+    Ok(text(out))
+}
+
 // The text of all rows of a list, ROW_WIDTH numbers a row. Refused with 14 where the list is no list of rows.
-pub fn put_rows(rows: &[i64], out: &mut [u8]) -> Put
-    ensures answer { result ≡ put_answer (rows_refusal rows.now) (rows_text rows.now) out.old }
+pub fn put_rows(rows: &[i64], out: &mut [u8]) -> Result<usize, Unfilled>
+    ensures answer { put_told result ≡ put_answer (rows_refusal rows.now) (rows_text rows.now) out.old }
     ensures bytes { out.new ≡ filled (rows_refusal rows.now) (rows_text rows.now) out.old }
     ensures longest { ROW_MOST ≡ row_most }
 {
-    let n = rows.len();
-    let over = n % ROW_WIDTH;
-    if over != 0 {
-        return Put {
-            refusal: LIST_LENGTH,
-            length: 0,
-        };
+    if rows.len() % ROW_WIDTH != 0 {
+        return Err(Unfilled::Refused(Refusal::ListLength));
     }
-    let count = n / ROW_WIDTH;
-    let mut none = [0u8; 0];
-    let needed = put_all(rows, count, &mut none);
-    if out.len() < needed {
-        return Put {
-            refusal: NO_ROOM,
-            length: needed,
-        };
-    }
-    let end = put_all(rows, count, out);
-    Put {
-        refusal: 0,
-        length: end,
-    }
+    put_fitting(|bytes| put_all(rows, bytes), out)
 }
 
 // A word, which ends in a blank, and a number.
@@ -109,43 +94,31 @@ fn put_word(word: &[u8], below: bool, n: u64, out: &mut [u8]) -> usize
 }
 
 // The line of a word and a number.
-fn put_line(word: &[u8], below: bool, n: u64, out: &mut [u8]) -> Put
-    ensures { PutEnd (pos 0) (word.now ++ sized below n ++ (newline ∷ [])) out.old result out.new }
+fn put_line(word: &[u8], below: bool, n: u64, out: &mut [u8]) -> Result<usize, Unfilled>
+    ensures { PutEnd (pos 0) (word.now ++ sized below n ++ (newline ∷ [])) out.old (put_told result) out.new }
 {
-    let mut none = [0u8; 0];
-    let length = put_word(word, below, n, &mut none);
-    if out.len() < length {
-        return Put {
-            refusal: NO_ROOM,
-            length,
-        };
-    }
-    let end = put_word(word, below, n, out);
-    Put {
-        refusal: 0,
-        length: end,
-    }
+    put_fitting(|bytes| put_word(word, below, n, bytes), out)
 }
 
 // The first line of a listing: `objects` and the count.
-pub fn put_objects(n: u64, out: &mut [u8]) -> Put
-    ensures answer { result ≡ put_answer (pos 0) (count_line objects_word (pos n)) out.old }
+pub fn put_objects(n: u64, out: &mut [u8]) -> Result<usize, Unfilled>
+    ensures answer { put_told result ≡ put_answer (pos 0) (count_line objects_word (pos n)) out.old }
     ensures bytes { out.new ≡ filled (pos 0) (count_line objects_word (pos n)) out.old }
 {
     put_line(b"objects ", false, n, out)
 }
 
 // The last line of a listing: `rows` and the count.
-pub fn put_count(n: u64, out: &mut [u8]) -> Put
-    ensures answer { result ≡ put_answer (pos 0) (count_line rows_word (pos n)) out.old }
+pub fn put_count(n: u64, out: &mut [u8]) -> Result<usize, Unfilled>
+    ensures answer { put_told result ≡ put_answer (pos 0) (count_line rows_word (pos n)) out.old }
     ensures bytes { out.new ≡ filled (pos 0) (count_line rows_word (pos n)) out.old }
 {
     put_line(b"rows ", false, n, out)
 }
 
 // The only line for refused input: `refused` and the number.
-pub fn put_refused(n: i64, out: &mut [u8]) -> Put
-    ensures answer { result ≡ put_answer (pos 0) (count_line refused_word n) out.old }
+pub fn put_refused(n: i64, out: &mut [u8]) -> Result<usize, Unfilled>
+    ensures answer { put_told result ≡ put_answer (pos 0) (count_line refused_word n) out.old }
     ensures bytes { out.new ≡ filled (pos 0) (count_line refused_word n) out.old }
     ensures longest { LINE_MOST ≡ line_most }
 {

@@ -2,7 +2,7 @@
 --   box-shown   "lowest and highest x and y over its standard ends; with none, all four are +0 and a flag says so"; the list's own refusal is
 --               said of a refused list alone
 -- Assumes nothing.
-use Rattle.std.specs.Prelude.{◌≡◌, ◌⊎◌, Bool, cond, List, [], ◌∷◌, ◌++◌, eqb, ℤ, pos}
+use Rattle.std.specs.Prelude.{◌≡◌, ◌⊎◌, Bool, cond, List, [], ◌∷◌, ◌++◌, eqb, ℤ, pos, Option, Some, Result, Ok, Err}
 use Rattle.std.proofs.Math.Path.{refl}
 use Rattle.std.proofs.Common.{sym, ap, subst, ◌∙◌, inl, inr, ⊎_elim, true≢false, arith, eqb-true}
 use Rattle.std.proofs.Math.Bool.{true, false}
@@ -15,21 +15,23 @@ use Rattle.whole.specs.Bound.{w-lit, w-pos}
 use Rattle.whole.specs.Flag.{eq_z}
 use Rattle.whole.specs.Tests.{cond-by, eq-eq_z, ne-eq_z}
 use Rattle.sheet.specs.declared.Point.{Point}
+use Rattle.sheet.specs.declared.refusal.Refusal.{Refusal}
+use Rattle.sheet.specs.Refused.{no_of}
+use Rattle.sheet.specs.RefusedLaws.{no-zero}
 use Rattle.sheet.specs.Figure.{Vec}
 use Rattle.sheet.specs.Points.{given, standard}
 use Rattle.sheet.specs.Lists.{count_of, list_refusal}
 use Rattle.sheet.specs.Listable.{Listable}
 use Rattle.sheet.specs.ListsLaws.{listable}
 use Rattle.screen.specs.declared.SheetBox.{SheetBox}
-use Rattle.screen.specs.declared.Boxed.{Boxed}
-use Rattle.screen.specs.declared.Boxed.TheVariants.{Around}
 use Rattle.screen.specs.Quotient.{float, Near}
 use Rattle.screen.specs.Parts.{Parts}
 use Rattle.screen.proofs.QuotientLaws.{quotient-near, over-one}
-use Rattle.screen.specs.Values.{refusal, float_answer}
+use Rattle.screen.specs.Values.{Values, refusal, float_answer}
+use Rattle.screen.specs.ValuesLaws.{as_many}
 use Rattle.screen.specs.Boxes.{ends_at, ends_of, part, extreme, is_none, box_of, box_says, boxed_says}
-use Rattle.screen.specs.BoxesLaws.{box-one, ends-small, extreme-within}
-use Rattle.screen.proofs.Surrounds.{standards, givens, ends-standard, Met, surrounds, none-zero}
+use Rattle.screen.specs.BoxesLaws.{box-one, four-floats, ends-small, extreme-within}
+use Rattle.screen.proofs.Surrounds.{standards, givens, ends-standard, Met, surrounds}
 use Rattle.screen.specs.Shown.{Among, here, later, StandardEnd, Touched, Inside, Encloses, Shows, BoxShown, box_refused, around_none, around}
 
 -- ---- one of some
@@ -83,6 +85,15 @@ givens-from (v ∷ vs) (later m) = let r = givens-from vs m in record { at = r.a
 some : {v : Vec} {vs : List Vec} → Among v vs → is_none vs ≡ false
 some here = refl
 some (later m) = refl
+
+box-some : (vs : List Vec) → is_none vs ≡ false
+    → box_of vs
+    ≡ Some (record {
+      low = record { x = float (extreme false 0 vs); y = float (extreme false 1 vs) };
+      high = record { x = float (extreme true 0 vs); y = float (extreme true 1 vs) };
+    })
+box-some [] e = absurd (true≢false e)
+box-some (v ∷ vs) e = refl
 
 -- ---- the ends of a list are those of its objects
 
@@ -168,29 +179,35 @@ module _ {l : List ℤ} (fine : Listable l) where
       let parts : Parts (extreme up axis places) (pos 1) = record { in_n = small; in-w = record { above = lt_z_yes tt; at_most = w-lit (w-pos 1) tt } } in
       record { is = is; near = subst (Near (extreme up axis places) (pos 1)) (sym is) (quotient-near parts) }
 
-  shown-around : list_refusal l ≡ pos 0 → BoxShown l (Around (box_of places))
+  shown-around : list_refusal l ≡ pos 0 → BoxShown l (Ok (box_of places))
   shown-around z = go places refl
     where
-      go : (vs : List Vec) → places ≡ vs → BoxShown l (Around (box_of places))
+      go : (vs : List Vec) → places ≡ vs → BoxShown l (Ok (box_of places))
       go [] e =
-          subst (λ (x : SheetBox). BoxShown l (Around x)) (sym (ap box_of e ∙ none-zero))
+          subst (λ (x : Option SheetBox). BoxShown l (Ok x)) (sym (ap box_of e))
           (around_none z (λ p h. true≢false (sym (ap is_none e) ∙ some (end-place h).among)))
       go (v ∷ vs) e =
-          subst (λ (t : Bool). BoxShown l (Around (record { low = (box_of places).low; high = (box_of places).high; none = t })))
-          (sym (ap is_none e))
+          subst (λ (x : Option SheetBox). BoxShown l (Ok x)) (sym (box-some places (ap is_none e)))
           (around z (encloses (ap is_none e))
           (record { in_x = shows false 0; in_y = shows false 1 }) (record { in_x = shows true 0; in_y = shows true 1 }))
 
-pub box-shown : (l : List ℤ) (r : Boxed) → boxed_says r ≡ float_answer (list_refusal l) (box_says (box_of (ends_of l))) → BoxShown l r
-box-shown l r e = go (ℤ_discrete (list_refusal l) (pos 0))
+pub box-shown :
+    (l : List ℤ) (r : Result (Option SheetBox) Refusal) → boxed_says r ≡ float_answer (list_refusal l) (box_says (box_of (ends_of l)))
+    → BoxShown l r
+box-shown l r e = go (ℤ_discrete (list_refusal l) (pos 0)) r e
   where
-    is : {q : Boxed} → BoxShown l q → boxed_says r ≡ boxed_says q → BoxShown l r
-    is {q} h f = subst (BoxShown l) (sym (box-one r q f)) h
+    there : Values
+    there = box_says (box_of (ends_of l))
 
-    by : {b : Bool} → eq_z (list_refusal l) (pos 0) ≡ b
-        → boxed_says r ≡ cond b (box_says (box_of (ends_of l))) (refusal (list_refusal l))
-    by t = e ∙ ap (λ (b : Bool). cond b (box_says (box_of (ends_of l))) (refusal (list_refusal l))) t
+    by : {s : Values} {b : Bool} → eq_z (list_refusal l) (pos 0) ≡ b → s ≡ float_answer (list_refusal l) there
+        → s ≡ cond b there (refusal (list_refusal l))
+    by t e = e ∙ ap (λ (b : Bool). cond b there (refusal (list_refusal l))) t
 
-    go : Dec (list_refusal l ≡ pos 0) → BoxShown l r
-    go (yes z) = is (shown-around (listable l z) z) (by (eq-eq_z z))
-    go (no d) = is (box_refused refl d) (by (ne-eq_z d))
+    go : Dec (list_refusal l ≡ pos 0) → (r : Result (Option SheetBox) Refusal) → boxed_says r ≡ float_answer (list_refusal l) there → BoxShown l r
+    go (yes z) r e =
+        subst (BoxShown l) (sym (box-one r (Ok (box_of (ends_of l))) (by (eq-eq_z z) e))) (shown-around (listable l z) z)
+    go (no d) (Ok b) e = absurd (omega (arith, as_many (by (ne-eq_z d) e), four-floats b))
+    go (no d) (Err x) e =
+        let f = ap (λ (t : Values). t.wholes) (by (ne-eq_z d) e) in
+        let same : no_of x ≡ list_refusal l = cc in
+        box_refused same (no-zero x)

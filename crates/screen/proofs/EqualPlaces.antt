@@ -7,7 +7,9 @@ use Rattle.std.proofs.Math.IntN.{*ℤ_comm, *ℤ-zero}
 use Rattle.whole.specs.Laws.{mul-neg}
 use Rattle.whole.specs.Within.{Within}
 use Rattle.whole.specs.Bound.{w-lit}
+use Rattle.std.specs.Prelude.{Result}
 use Rattle.sheet.specs.declared.Point.{Point}
+use Rattle.sheet.specs.declared.refusal.Refusal.{Refusal}
 use Rattle.sheet.specs.Figure.{Side, left, bottom, right, top, side_number, side_of}
 use Rattle.sheet.proofs.RefusalLaws.{side-of}
 use Rattle.sheet.specs.Ends.{next_side}
@@ -108,7 +110,7 @@ by_place {p} {q} (a_frame f dp) (a_frame g dq) np e =
 
 -- ---- of what `place_of` answers
 
-placed : (p : Point) (r : OnScreen) → is_point p ≡ true → place_says r ≡ float_answer (point_refusal p) (place_of p) → place_says r ≡ place_of p
+placed : (p : Point) (r : Result OnScreen Refusal) → is_point p ≡ true → place_says r ≡ float_answer (point_refusal p) (place_of p) → place_says r ≡ place_of p
 unfolding point_refusal
 placed p r h e = e ∙ ap (λ (t : Bool). float_answer (cond t (pos 0) (pos 5)) (place_of p)) h
 
@@ -116,7 +118,7 @@ two_floats : {p : Point} → APoint p → length (place_of p).floats ≡ 2
 two_floats {p} (a_standard f d) = as_many (place-standard p ((standard-is p).1 f))
 two_floats {p} (a_frame f d) = as_many (place-frame p (frame-standard f))
 
-pub places-equal : (p q : Point) (r s : OnScreen)
+pub places-equal : (p q : Point) (r s : Result OnScreen Refusal)
     → place_says r ≡ float_answer (point_refusal p) (place_of p) → place_says s ≡ float_answer (point_refusal q) (place_of q)
     → (is_point p ≡ true) × (narrow p ≡ true) → (r ≡ s) ↔ (p ≡ q)
 unfolding point_refusal

@@ -8,7 +8,7 @@
 --   flat-is         a point is standard exactly where mx and my are 0;  frame-standard   on the frame it is not
 --   place-standard, place-frame   the place by whether the point is standard
 -- Assumes nothing.
-use Rattle.std.specs.Prelude.{◌≡◌, refl, ◌⊎◌, Bool, true, false, cond, not, ◌&&◌, ℕ, suc, ℤ, pos, negsuc, neg_ℤ, nat_abs, ◌<ℤ◌}
+use Rattle.std.specs.Prelude.{◌≡◌, refl, ◌⊎◌, Bool, true, false, cond, not, ◌&&◌, ℕ, suc, ℤ, pos, negsuc, neg_ℤ, nat_abs, ◌<◌, ◌<ℤ◌, length, Result}
 use Rattle.std.proofs.Common.{sym, ◌∙◌, ap, ap₂, true≢false, arith}
 use Rattle.std.proofs.Math.Logic.{inl, inr}
 use Rattle.whole.specs.Bound.{w-lit}
@@ -16,6 +16,7 @@ use Rattle.whole.specs.Order.{pp-dest}
 use Rattle.whole.specs.Flag.{eq_z}
 use Rattle.whole.specs.Tests.{eq-eq_z, ne-eq_z, eq_z-true}
 use Rattle.sheet.specs.declared.Point.{Point}
+use Rattle.sheet.specs.declared.refusal.Refusal.{Refusal}
 use Rattle.sheet.specs.Figure.{Side, left, bottom, right, top, side_number}
 use Rattle.sheet.specs.Ends.{begins}
 use Rattle.sheet.specs.Flags.{both, not-both}
@@ -23,35 +24,37 @@ use Rattle.sheet.specs.Points.{size, standard}
 use Rattle.sheet.specs.PointFacts.{Standard, OnEdge, Frame, APoint, a_standard, a_frame}
 use Rattle.sheet.specs.PointsLaws.{point-sizes, standard-is}
 use Rattle.screen.specs.declared.OnScreen.{OnScreen}
-use Rattle.screen.specs.declared.OnScreen.TheVariants.{At, Edge, Refused}
+use Rattle.screen.specs.declared.OnScreen.TheVariants.{At, Edge}
 use Rattle.screen.specs.Parts.{Parts}
 use Rattle.screen.specs.Values.{Values}
-use Rattle.screen.specs.ValuesLaws.{as_many, as-many-wholes}
-use Rattle.screen.specs.Places.{place_says, exactly, is_on, goes_to, side_where, along, position_of, edge_of, place_of}
+use Rattle.screen.specs.ValuesLaws.{as-many-wholes, float-one}
+use Rattle.screen.specs.Places.{on_screen_says, place_says, exactly, is_on, goes_to, side_where, along, position_of, edge_of, place_of}
 use Rattle.screen.specs.ByNumber.{along_number}
 
 -- ---- no two places say the same
 
-pub place-one : (r s : OnScreen) → place_says r ≡ place_says s → r ≡ s
-place-one (At x y) (At x' y') e =
+screen-one : (r s : OnScreen) → on_screen_says r ≡ on_screen_says s → r ≡ s
+screen-one (At x y) (At x' y') e =
     let f = ap (λ (t : Values). t.floats) e in
     let ex : x ≡ x' = cc in
     let ey : y ≡ y' = cc in
     ap₂ At ex ey
-place-one (At x y) (Edge n t o) e = let z = as-many-wholes e in absurd (omega arith)
-place-one (At x y) (Refused n) e = let z = as_many e in absurd (omega arith)
-place-one (Edge n t o) (At x y) e = let z = as-many-wholes e in absurd (omega arith)
-place-one (Edge n t o) (Edge n' t' o') e =
+screen-one (At x y) (Edge n t o) e = let z = as-many-wholes e in absurd (omega arith)
+screen-one (Edge n t o) (At x y) e = let z = as-many-wholes e in absurd (omega arith)
+screen-one (Edge n t o) (Edge n' t' o') e =
     let f = ap (λ (u : Values). u.floats) e in
     let g = ap (λ (u : Values). u.wholes) e in
     let et : t ≡ t' = cc in
     let eo : o ≡ o' = cc in
     let en : n ≡ n' = cc in
     λ i. Edge (en i) (et i) (eo i)
-place-one (Edge n t o) (Refused m) e = let z = as_many e in absurd (omega arith)
-place-one (Refused n) (At x y) e = let z = as_many e in absurd (omega arith)
-place-one (Refused n) (Edge m t o) e = let z = as_many e in absurd (omega arith)
-place-one (Refused n) (Refused m) e = let f = ap (λ (u : Values). u.wholes) e in let z : n ≡ m = cc in ap Refused z
+
+two_floats : (r : OnScreen) → 0 < length (on_screen_says r).floats
+two_floats (At x y) = omega arith
+two_floats (Edge n t o) = omega arith
+
+pub place-one : (r s : Result OnScreen Refusal) → place_says r ≡ place_says s → r ≡ s
+place-one = float-one on_screen_says screen-one two_floats
 
 -- ---- the side of a frame point
 

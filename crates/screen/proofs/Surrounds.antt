@@ -5,7 +5,7 @@
 --   Surrounds, surrounds       so for all four sides of a box
 --   none-zero                  of no places the box is +0 four times, and the flag
 -- Assumes nothing.
-use Rattle.std.specs.Prelude.{◌≡◌, refl, ◌⊎◌, Bool, true, false, cond, ℕ, ℤ, ◌≤ℤ◌}
+use Rattle.std.specs.Prelude.{◌≡◌, refl, ◌⊎◌, Bool, true, false, cond, ℕ, ℤ, pos, ◌≤ℤ◌}
 use Rattle.std.proofs.Common.{sym, ap₂, subst, inl, inr, true≢false}
 use mathlib.Core.List.{List, [], ◌∷◌}
 use Rattle.std.specs.Int.Signed.{lt_z, ≤ℤ_refl}
@@ -20,12 +20,11 @@ use Rattle.sheet.specs.Points.{given, standard}
 use Rattle.sheet.specs.PointsLaws.{frame-divided}
 use Rattle.sheet.specs.Ends.{moment, far_end, reverse, begins, next_side, first_of, last_of, first_end, last_end}
 use Rattle.sheet.proofs.EndsLaws.{Way, proper-way, reverse-way, far-frame, given-fine}
-use Rattle.screen.specs.declared.SheetBox.{SheetBox}
-use Rattle.screen.specs.Quotient.{zero+}
+use Rattle.screen.specs.Quotient.{float, zero+}
 use Rattle.screen.proofs.QuotientLaws.{float_zero}
 use Rattle.screen.specs.Shown.{Among, here, later}
 use Rattle.screen.proofs.PlacesLaws.{flat-is, frame-standard}
-use Rattle.screen.specs.Boxes.{standard_ends, passes, farther, part, farthest, extreme, is_none, box_of}
+use Rattle.screen.specs.Boxes.{standard_ends, passes, farther, part, farthest, extreme, is_none, box_of, box_says}
 
 -- ---- the standard ends
 
@@ -179,8 +178,10 @@ surrounds vs e = record {
 }
 
 -- "with none, all four are +0 and a flag says so"
-pub none-zero :
-    ◌≡◌ {A = SheetBox} (box_of [])
-    (record { low = record { x = zero+; y = zero+ }; high = record { x = zero+; y = zero+ }; none = true })
+pub none-zero : box_says (box_of []) ≡ record { wholes = pos 0 ∷ pos 1 ∷ []; floats = zero+ ∷ zero+ ∷ zero+ ∷ zero+ ∷ [] }
+none-zero = refl
+
+-- which is also what is found of no places
+pub extreme-none : (up : Bool) (axis : ℕ) → float (extreme up axis []) ≡ zero+
 unfolding extreme
-none-zero = let z = float_zero in λ i. record { low = record { x = z i; y = z i }; high = record { x = z i; y = z i }; none = true }
+extreme-none up axis = float_zero

@@ -1,6 +1,6 @@
 -- Places, boxes and the bound of their floats, worked out by document 01's words. A definition that says something else is refused here,
 -- whatever the code does.
-use Rattle.std.specs.Prelude.{◌≡◌, refl, Bool, true, false, List, [], ◌∷◌, ◌++◌, Float, ℤ, pos, negsuc}
+use Rattle.std.specs.Prelude.{◌≡◌, refl, Bool, true, false, List, [], ◌∷◌, ◌++◌, Float, ℤ, pos, negsuc, Some, None, Result, Ok, Err}
 use Rattle.std.proofs.Common.{sym, ◌∙◌, ap, inl, inr, true≢false, le→leb, lit≤, lit<}
 use Rattle.whole.specs.InTurn.{in_turn}
 use Rattle.sheet.specs.Answers.{object_numbers}
@@ -12,7 +12,9 @@ use Rattle.whole.specs.Divisor.{steps, gcd, gcd_of}
 use Rattle.whole.specs.Tests.{eq_z-false}
 use Rattle.sheet.specs.declared.Object.{Object}
 use Rattle.sheet.specs.declared.Point.{Point}
-use Rattle.sheet.specs.declared.Ends.TheVariants as ends
+use Rattle.sheet.specs.declared.Ends.{Ends}
+use Rattle.sheet.specs.declared.refusal.Refusal.{Refusal}
+use Rattle.sheet.specs.declared.refusal.Refusal.TheVariants as refusal
 use Rattle.sheet.specs.Figure.{Vec, Side, left, bottom, right, top, side_number, figure_of}
 use Rattle.sheet.specs.Points.{divided, standard, narrow, frame, is_point}
 use Rattle.sheet.specs.PointsLaws.{frame_is}
@@ -20,7 +22,6 @@ use Rattle.sheet.specs.Ends.{far_raw, far_end, first_end, last_end}
 use Rattle.sheet.specs.Cases.{minus, point, at, segment, ray, line, side}
 use Rattle.screen.specs.declared.OnScreen.{OnScreen}
 use Rattle.screen.specs.declared.OnScreen.TheVariants as place
-use Rattle.screen.specs.declared.Boxed.TheVariants as boxed
 use Rattle.screen.specs.Values.{Values}
 use Rattle.screen.specs.Quotient.{zero+, float, quotient, Near}
 use Rattle.screen.specs.Places.{place_says, goes_to, side_where, m_along, n_along, place_of}
@@ -59,10 +60,10 @@ pub record WorkedPlaces : Type 0 where
       × (place_of (point (pos 1) (pos 0) (pos 1) (minus 7) (pos 1)) ≡ edge (pos 3) (pos 1) (minus 7) (pos 1))
       × (place_of (point (minus 1) (pos 7) (pos 1) (pos 0) (pos 1)) ≡ edge (pos 4) (minus 1) (pos 7) (pos 1))
   said :
-      (place_says (place.At (float (pos 3)) (float (pos 4))) ≡ record { wholes = pos 0 ∷ []; floats = float (pos 3) ∷ float (pos 4) ∷ [] })
-      × (place_says (place.Edge (pos 2) (float (pos 3)) (float (pos 4)))
+      (place_says (Ok (place.At (float (pos 3)) (float (pos 4)))) ≡ record { wholes = pos 0 ∷ []; floats = float (pos 3) ∷ float (pos 4) ∷ [] })
+      × (place_says (Ok (place.Edge (pos 2) (float (pos 3)) (float (pos 4))))
       ≡ record { wholes = pos 0 ∷ pos 2 ∷ []; floats = float (pos 3) ∷ float (pos 4) ∷ [] })
-      × (place_says (place.Refused (pos 5)) ≡ record { wholes = pos 5 ∷ []; floats = [] })
+      × (place_says (Err refusal.NoPoint) ≡ record { wholes = pos 5 ∷ []; floats = [] })
 
 pub worked-places : WorkedPlaces
 unfolding standard side_where place_of
@@ -104,6 +105,9 @@ upper = line (pos 0) (pos 1) (pos 2) (pos 2)
 abbrev lower : Object
 lower = line (pos 0) (pos 0) (pos 2) (pos 1)
 
+abbrev both : Point → Point → Ends
+both p q = record { first = p; last = q }
+
 pub record WorkedParallel : Type 0 where
   -- the arrowheads are at y = R/2 + 2/2 and y = R/2 of the right side, the other ends at y = -R/2 + 2/2 and y = -R/2 of the left one
   rows-4-and-6 :
@@ -117,8 +121,8 @@ pub record WorkedParallel : Type 0 where
   not_parallel : Parallel lower (line (pos 0) (pos 1) (pos 2) (pos 3)) → ⊥
   no-side : (Parallel (line (pos 0) (pos 1) (pos 1) (pos 1)) (side (pos 1)) → ⊥) × (Parallel (side (pos 1)) (line (pos 0) (pos 1) (pos 1) (pos 1)) → ⊥)
   -- both ends of an answer are ends, and a refusal has none
-  ends_in : EndIn (last_end upper) (ends.Both (last_end upper) (last_end lower)) × EndIn (last_end lower) (ends.Both (last_end upper) (last_end lower))
-  refused_in : EndIn (last_end upper) (ends.Refused (pos 3)) → ⊥
+  ends_in : EndIn (last_end upper) (Ok (both (last_end upper) (last_end lower))) × EndIn (last_end lower) (Ok (both (last_end upper) (last_end lower)))
+  refused_in : EndIn (last_end upper) (Err refusal.SamePoints) → ⊥
 
 pub worked-parallel : WorkedParallel
 unfolding sgn steps gcd gcd_of figure_of divided far_raw far_end first_end last_end standard side_where place_of
@@ -157,24 +161,17 @@ pub record WorkedBox : Type 0 where
   -- "lowest and highest x and y over its standard ends"
   lowest-and-highest :
       box_of their_ends
-      ≡ record {
+      ≡ Some (record {
         low = record { x = float (minus 3); y = float (minus 8) };
         high = record { x = float (pos 7); y = float (pos 4) };
-        none = false;
-      }
+      })
   -- "with none, all four are +0 and a flag says so"
-  around_none :
-      box_of []
-      ≡ record {
-        low = record { x = float (pos 0); y = float (pos 0) };
-        high = record { x = float (pos 0); y = float (pos 0) };
-        none = true;
-      }
+  around_none : box_of [] ≡ None
   said :
-      ((boxed_says (boxed.Around (box_of []))).wholes ≡ pos 0 ∷ pos 1 ∷ [])
-      × (boxed_says (boxed.Around (box_of their_ends))
+      (boxed_says (Ok (box_of [])) ≡ record { wholes = pos 0 ∷ pos 1 ∷ []; floats = zero+ ∷ zero+ ∷ zero+ ∷ zero+ ∷ [] })
+      × (boxed_says (Ok (box_of their_ends))
       ≡ record { wholes = pos 0 ∷ pos 0 ∷ []; floats = float (minus 3) ∷ float (minus 8) ∷ float (pos 7) ∷ float (pos 4) ∷ [] })
-      × (boxed_says (boxed.Refused (pos 14)) ≡ record { wholes = pos 14 ∷ []; floats = [] })
+      × (boxed_says (Err refusal.ListLength) ≡ record { wholes = pos 14 ∷ []; floats = [] })
 
 pub worked-box : WorkedBox
 unfolding in_turn figure_of farthest extreme
@@ -236,24 +233,24 @@ abbrev east : Point
 east = point (pos 1) (pos 0) (pos 0) (pos 1) (pos 1)
 
 pub record WorkedShown : Type 0 where
-  exact : Shown east (place.Edge (pos 3) zero+ one)
+  exact : Shown east (Ok (place.Edge (pos 3) zero+ one))
   -- the offset is one part in 2^53 off, and two; the slope is -0; another side
-  offset_just_near : Shown east (place.Edge (pos 3) zero+ below)
-  offset_not_near : Shown east (place.Edge (pos 3) zero+ above) → ⊥
-  slope_not_below : Shown east (place.Edge (pos 3) zero- one) → ⊥
-  other_side : Shown east (place.Edge (pos 1) zero+ one) → ⊥
+  offset_just_near : Shown east (Ok (place.Edge (pos 3) zero+ below))
+  offset_not_near : Shown east (Ok (place.Edge (pos 3) zero+ above)) → ⊥
+  slope_not_below : Shown east (Ok (place.Edge (pos 3) zero- one)) → ⊥
+  other_side : Shown east (Ok (place.Edge (pos 1) zero+ one)) → ⊥
 
-abbrev OfEdge : Point → OnScreen → Type 0
-OfEdge p (place.At x y) = Unit {0}
-OfEdge p (place.Edge n t o) = (s : Side) × (goes_to s p ≡ true) × (n ≡ side_number s) × Near (m_along s p) p.w t × Near (n_along s p) p.w o
-OfEdge p (place.Refused n) = Unit {0}
+abbrev OfEdge : Point → Result OnScreen Refusal → Type 0
+OfEdge p (Ok (place.At x y)) = Unit {0}
+OfEdge p (Ok (place.Edge n t o)) = (s : Side) × (goes_to s p ≡ true) × (n ≡ side_number s) × Near (m_along s p) p.w t × Near (n_along s p) p.w o
+OfEdge p (Err r) = Unit {0}
 
-of-edge : {p : Point} {r : OnScreen} → Shown p r → OfEdge p r
+of-edge : {p : Point} {r : Result OnScreen Refusal} → Shown p r → OfEdge p r
 of-edge (a_position f x y) = tt
 of-edge (an_edge s f g t o) = (s, g, refl, t, o)
 of-edge (no-point e) = tt
 
-on-the-right : {n : ℤ} {t o : Float} → OfEdge east (place.Edge n t o) → (n ≡ pos 3) × Near (pos 0) (pos 1) t × Near (pos 1) (pos 1) o
+on-the-right : {n : ℤ} {t o : Float} → OfEdge east (Ok (place.Edge n t o)) → (n ≡ pos 3) × Near (pos 0) (pos 1) t × Near (pos 1) (pos 1) o
 on-the-right (left, e, n, t, o) = absurd (true≢false (sym e))
 on-the-right (bottom, e, n, t, o) = absurd (true≢false (sym e))
 on-the-right (right, e, n, t, o) = (n, t, o)

@@ -1,15 +1,14 @@
 -- "A whole sheet's box is a pair of positions, lowest and highest x and y over its standard ends; with none, all four are +0 and a flag
 -- says so." The lowest and the highest are found over whole numbers.
-use Rattle.std.specs.Prelude.{Bool, true, false, cond, List, [], ◌∷◌, ℕ, zero, suc, ℤ, pos}
+use Rattle.std.specs.Prelude.{Bool, true, false, cond, List, [], ◌∷◌, ℕ, zero, suc, ℤ, pos, Float, Option, Some, None, Result}
 use Rattle.std.specs.Int.Signed.{lt_z}
 use Rattle.whole.specs.InTurn.{all_of}
+use Rattle.sheet.specs.declared.refusal.Refusal.{Refusal}
 use Rattle.sheet.specs.Figure.{Vec, Figure, segment, ray, line, side, figure}
 use Rattle.sheet.specs.Lists.{count_of, object_at}
 use Rattle.screen.specs.declared.SheetBox.{SheetBox}
-use Rattle.screen.specs.declared.Boxed.{Boxed}
-use Rattle.screen.specs.declared.Boxed.TheVariants.{Around, Refused}
-use Rattle.screen.specs.Quotient.{float}
-use Rattle.screen.specs.Values.{Values, refusal}
+use Rattle.screen.specs.Quotient.{float, zero+}
+use Rattle.screen.specs.Values.{Values, float_says}
 
 -- ---- the standard ends
 
@@ -58,25 +57,31 @@ is_none (v ∷ vs) = false
 
 -- ---- the box
 
-abbrev pub box_of : List Vec → SheetBox
-box_of vs = record {
-  low = record { x = float (extreme false 0 vs); y = float (extreme false 1 vs) };
-  high = record { x = float (extreme true 0 vs); y = float (extreme true 1 vs) };
-  none = is_none vs;
-}
+-- "with none, all four are +0"
+abbrev pub nothing : SheetBox
+nothing = record { low = record { x = zero+; y = zero+ }; high = record { x = zero+; y = zero+ } }
+
+-- of no places there is none
+abbrev pub box_of : List Vec → Option SheetBox
+box_of [] = None
+box_of (v ∷ vs) = Some (record {
+  low = record { x = float (extreme false 0 (v ∷ vs)); y = float (extreme false 1 (v ∷ vs)) };
+  high = record { x = float (extreme true 0 (v ∷ vs)); y = float (extreme true 1 (v ∷ vs)) };
+})
 
 -- a flag as a number
 abbrev pub flag : Bool → ℤ
 flag false = pos 0
 flag true = pos 1
 
--- 0 and the flag, with the lowest x and y and the highest x and y
-abbrev pub box_says : SheetBox → Values
-box_says e = record {
-  wholes = pos 0 ∷ flag e.none ∷ [];
-  floats = e.low.x ∷ e.low.y ∷ e.high.x ∷ e.high.y ∷ [];
-}
+-- the lowest x and y and the highest x and y
+abbrev pub corners : SheetBox → List Float
+corners e = e.low.x ∷ e.low.y ∷ e.high.x ∷ e.high.y ∷ []
 
-abbrev pub boxed_says : Boxed → Values
-boxed_says (Around e) = box_says e
-boxed_says (Refused n) = refusal n
+-- 0, the flag that says that there is none, and the four
+abbrev pub box_says : Option SheetBox → Values
+box_says None = record { wholes = pos 0 ∷ flag true ∷ []; floats = corners nothing }
+box_says (Some e) = record { wholes = pos 0 ∷ flag false ∷ []; floats = corners e }
+
+abbrev pub boxed_says : Result (Option SheetBox) Refusal → Values
+boxed_says = float_says box_says

@@ -1,33 +1,38 @@
 -- The laws of the box. To cite:
---   box-one                    no two answers say the same
+--   box-one                    no two answers say the same;  four-floats   what a box says has four floats
 --   farthest-two               the farthest of one list and then of another
---   ends-step                  the farthest so far with the standard ends of one more object, by its numbers
+--   ends-two                   the lowest and the highest of one list and then of another
+--   with_segment, with_ray, with_none   with the standard ends of one more object, by its kind
+--   higher-is                  the library's higher of two numbers
+--   Found, found               the lowest and the highest of some places are found, and within 2,000;  found-within, found-box   what is then to be had
 --   AllSmall, ends-small       the standard ends of accepted objects are within 2,000
 --   beyond_all, from-beyond     a number beyond all coordinates to begin with
 --   extreme-within             the lowest and the highest are within 2,000
 --   no_end, some_end           whether there is a standard end, by the lowest x
 -- Assumes nothing.
-use Rattle.std.specs.Prelude.{◌≡◌, refl, Bool, true, false, cond, List, [], ◌∷◌, ◌++◌, ℕ, zero, suc, ◌≤◌, ℤ, pos, negsuc, nat_abs, ◌<ℤ◌}
+use Rattle.std.specs.Prelude.{◌≡◌, refl, Bool, true, false, cond, List, [], ◌∷◌, ◌++◌, ℕ, zero, suc, ◌≤◌, ℤ, pos, negsuc, nat_abs, get_or, ◌<ℤ◌, Option, Some, None, Result, length, MatchOption, IsSomeAnd}
+use Rattle.std.specs.Int.{int_max}
+use Rattle.std.specs.Int.Signed.{lt_z, clash_ℤ}
 use Rattle.std.proofs.Common.{sym, ◌∙◌, ap, subst, true≢false, arith}
 use Rattle.whole.specs.InTurn.{in_turn, all_of}
 use Rattle.whole.specs.Within.{Within}
 use Rattle.whole.specs.Bound.{w-upper, w-lower, w-lit, w-pos}
-use Rattle.whole.specs.Order.{≤-<-trans, <-≤-trans}
+use Rattle.whole.specs.Order.{≤-<-trans, <-≤-trans, <-≤, ≤-antisym}
 use Rattle.whole.specs.Flag.{eq_z}
-use Rattle.whole.specs.Tests.{cond-by, lt-lt_z}
+use Rattle.whole.specs.Tests.{cond-by, lt-lt_z, ne-eq_z, lt_z-true, lt_z-false}
 use Rattle.sheet.specs.declared.Object.{Object}
+use Rattle.sheet.specs.declared.refusal.Refusal.{Refusal}
 use Rattle.sheet.specs.Figure.{Vec, vec, Figure, segment, ray, line, side, side_of, figure, figure_of}
 use Rattle.sheet.specs.Refusal.{Accepted}
 use Rattle.sheet.specs.Lists.{count_of}
 use Rattle.sheet.specs.Listable.{Listable}
 use Rattle.sheet.proofs.RefusalLaws.{WithinBoth, Taken, a_segment, a_ray, a_line, a_side, accepted-taken}
 use Rattle.screen.specs.declared.SheetBox.{SheetBox}
-use Rattle.screen.specs.declared.Boxed.{Boxed}
-use Rattle.screen.specs.declared.Boxed.TheVariants.{Around, Refused}
 use Rattle.screen.specs.Values.{Values}
-use Rattle.screen.specs.ValuesLaws.{as_many}
-use Rattle.screen.specs.Boxes.{standard_ends, ends_at, ends_of, passes, farther, part, farthest, extreme, is_none, flag, box_says, boxed_says}
-use Rattle.screen.specs.ByNumber.{stepped_by, stepped}
+use Rattle.screen.specs.ValuesLaws.{float-one}
+use Rattle.screen.specs.Boxes.{standard_ends, ends_at, ends_of, passes, farther, part, farthest, extreme, is_none, flag, corners, box_of, box_says, boxed_says}
+use Rattle.screen.specs.declared.boxes.Extremes.{Extremes}
+use Rattle.screen.specs.Extremes.{extremes_at, extremes_with, with_end, with_ends, AllWithin, box_around}
 
 -- ---- no two answers say the same
 
@@ -37,23 +42,30 @@ flag_one true false e = let z : ◌≡◌ {A = ℕ} 0 1 = cc in absurd (omega ar
 flag_one false true e = let z : ◌≡◌ {A = ℕ} 0 1 = cc in absurd (omega arith)
 flag_one false false e = refl
 
-sheet-box-one : (a b : SheetBox) → box_says a ≡ box_says b → a ≡ b
-sheet-box-one a b e =
-    let f = ap (λ (t : Values). t.floats) e in
-    let w = ap (λ (t : Values). t.wholes) e in
+-- the flags of two answers that say the same
+flag-of : {s t : Values} → s ≡ t → get_or s.wholes 1 (pos 0) ≡ get_or t.wholes 1 (pos 0)
+flag-of e = ap (λ (t : Values). get_or t.wholes 1 (pos 0)) e
+
+some_one : (a b : SheetBox) → corners a ≡ corners b → a ≡ b
+some_one a b e =
     let e1 : a.low.x ≡ b.low.x = cc in
     let e2 : a.low.y ≡ b.low.y = cc in
     let e3 : a.high.x ≡ b.high.x = cc in
     let e4 : a.high.y ≡ b.high.y = cc in
-    let e5 : flag a.none ≡ flag b.none = cc in
-    let e6 = flag_one a.none b.none e5 in
-    λ i. record { low = record { x = e1 i; y = e2 i }; high = record { x = e3 i; y = e4 i }; none = e6 i }
+    λ i. record { low = record { x = e1 i; y = e2 i }; high = record { x = e3 i; y = e4 i } }
 
-pub box-one : (r s : Boxed) → boxed_says r ≡ boxed_says s → r ≡ s
-box-one (Around a) (Around b) e = ap Around (sheet-box-one a b e)
-box-one (Around a) (Refused n) e = let z = as_many e in absurd (omega arith)
-box-one (Refused n) (Around b) e = let z = as_many e in absurd (omega arith)
-box-one (Refused n) (Refused m) e = let f = ap (λ (t : Values). t.wholes) e in let z : n ≡ m = cc in ap Refused z
+sheet-box-one : (a b : Option SheetBox) → box_says a ≡ box_says b → a ≡ b
+sheet-box-one None None e = refl
+sheet-box-one None (Some b) e = absurd (true≢false (flag_one true false (flag-of e)))
+sheet-box-one (Some a) None e = absurd (true≢false (sym (flag_one false true (flag-of e))))
+sheet-box-one (Some a) (Some b) e = ap Some (some_one a b (ap (λ (t : Values). t.floats) e))
+
+pub four-floats : (b : Option SheetBox) → length (box_says b).floats ≡ 4
+four-floats None = refl
+four-floats (Some b) = refl
+
+pub box-one : (r s : Result (Option SheetBox) Refusal) → boxed_says r ≡ boxed_says s → r ≡ s
+box-one = float-one box_says sheet-box-one (λ b. omega (arith, four-floats b))
 
 -- ---- one more object
 
@@ -63,22 +75,38 @@ unfolding farthest
 farthest-two up axis z [] vs = refl
 farthest-two up axis z (u ∷ us) vs = farthest-two up axis (farther up z (part axis u)) us vs
 
--- the figure by the flags of the kinds
-abbrev figure_by : ℤ → Vec → Vec → Bool → Bool → Bool → Figure
-figure_by px p q s t u = cond s (segment p q) (cond t (ray p q) (cond u (line p q) (side (side_of px))))
+-- those of one list and then of another
+pub ends-two : (e : Option Extremes) (us vs : List Vec) → with_ends e (us ++ vs) ≡ with_ends (with_ends e us) vs
+unfolding with_ends
+ends-two e [] vs = refl
+ends-two e (u ∷ us) vs = ends-two (with_end e u) us vs
 
-pub ends-step :
-    (up : Bool) (axis : ℕ) (z kind px py qx qy : ℤ)
-    → farthest up axis z (standard_ends (figure_of kind px py qx qy)) ≡ stepped up z kind (part axis (vec px py)) (part axis (vec qx qy))
-unfolding farthest figure_of
-ends-step up axis z kind px py qx qy = go (eq_z kind (pos 1)) (eq_z kind (pos 2)) (eq_z kind (pos 3))
-  where
-    go : (s t u : Bool) → farthest up axis z (standard_ends (figure_by px (vec px py) (vec qx qy) s t u))
-        ≡ stepped_by up z (part axis (vec px py)) (part axis (vec qx qy)) s t
-    go true t u = refl
-    go false true u = refl
-    go false false true = refl
-    go false false false = refl
+-- the ends of a figure, by the flags of the kinds
+abbrev ends_by : ℤ → Vec → Vec → Bool → Bool → Bool → List Vec
+ends_by px p q s t u = standard_ends (cond s (segment p q) (cond t (ray p q) (cond u (line p q) (side (side_of px)))))
+
+module _ (e : Option Extremes) (px py qx qy : ℤ) where
+  abbrev of_kind : ℤ → Option Extremes
+  of_kind k = with_ends e (standard_ends (figure_of k px py qx qy))
+
+  abbrev by_flags : Bool → Bool → Bool → Option Extremes
+  by_flags s t u = with_ends e (ends_by px (vec px py) (vec qx qy) s t u)
+
+  pub with_segment : {kind : ℤ} → kind ≡ pos 1 → with_end (with_end e (vec px py)) (vec qx qy) ≡ of_kind kind
+  unfolding with_ends figure_of
+  with_segment k = sym (ap of_kind k)
+
+  pub with_ray : {kind : ℤ} → kind ≡ pos 2 → with_end e (vec px py) ≡ of_kind kind
+  unfolding with_ends figure_of
+  with_ray k = sym (ap of_kind k)
+
+  pub with_none : {kind : ℤ} → (kind ≡ pos 1 → ⊥) → (kind ≡ pos 2 → ⊥) → e ≡ of_kind kind
+  unfolding with_ends figure_of
+  with_none {kind} s t = go (eq_z kind (pos 3)) ∙ sym (λ i. by_flags (ne-eq_z s i) (ne-eq_z t i) (eq_z kind (pos 3)))
+    where
+      go : (u : Bool) → e ≡ by_flags false false u
+      go true = refl
+      go false = refl
 
 -- ---- the standard ends of accepted objects are within 2,000
 
@@ -157,3 +185,66 @@ pub some_end : (vs : List Vec) → (farthest false 0 (pos 2001) vs ≡ pos 2001 
 unfolding farthest
 some_end [] d = absurd (d refl)
 some_end (v ∷ vs) d = refl
+
+-- ---- the lowest and the highest so far
+
+-- the library's higher of two numbers
+pub higher-is : (a b : ℤ) → int_max a b ≡ farther true a b
+higher-is a b = go (lt_z b a) (lt_z a b) refl refl
+  where
+    go : (s t : Bool) → lt_z b a ≡ s → lt_z a b ≡ t → cond s a b ≡ cond t b a
+    go true true e f = absurd (clash_ℤ {a = b} {b = a} (lt_z-true e) (<-≤ (lt_z-true f)))
+    go true false e f = refl
+    go false true e f = refl
+    go false false e f = ≤-antisym (lt_z-false f) (lt_z-false e)
+
+-- the four of one place and then of others
+some-extremes :
+    (e : Extremes) (vs : List Vec)
+    → with_ends (Some e) vs
+    ≡ Some (record {
+      low_x = farthest false 0 e.low_x vs;
+      low_y = farthest false 1 e.low_y vs;
+      high_x = farthest true 0 e.high_x vs;
+      high_y = farthest true 1 e.high_y vs;
+    })
+unfolding with_ends farthest
+some-extremes e [] = refl
+some-extremes e (v ∷ vs) = some-extremes (extremes_with e v) vs
+
+-- what is found of some places: nothing, or the four that are to be found
+pub data Found (vs : List Vec) : Option Extremes → Type 0 where
+  found_none : vs ≡ [] → Found vs None
+  found_some : {e : Extremes} → AllWithin 2000 e → box_of vs ≡ Some (box_around e) → Found vs (Some e)
+
+pub found : (vs : List Vec) → AllSmall vs → Found vs (with_ends None vs)
+unfolding with_ends extreme
+found [] n = found_none refl
+found (v ∷ vs) n =
+    subst (Found (v ∷ vs)) (sym (some-extremes (extremes_at v) vs))
+    (found_some
+    (record {
+      low_x = extreme-within false 0 (v ∷ vs) n;
+      low_y = extreme-within false 1 (v ∷ vs) n;
+      high_x = extreme-within true 0 (v ∷ vs) n;
+      high_y = extreme-within true 1 (v ∷ vs) n;
+    })
+    refl)
+
+some_is : {a b : Extremes} → Some a ≡ Some b → a ≡ b
+some_is e = cc
+
+pub found-within : {vs : List Vec} {f : Option Extremes} → Found vs f → (e : Extremes) → f ≡ Some e → AllWithin 2000 e
+found-within (found_none z) e h = cc
+found-within (found_some w b) e h = subst (AllWithin 2000) (some_is h) w
+
+-- r is what a function gives for what is found, if anything is
+pub found-box :
+    {vs : List Vec} {f : Option Extremes} {r : Option SheetBox} {Gives : Extremes → SheetBox → Type 0}
+    → ((e : Extremes) (b : SheetBox) → Gives e b → b ≡ box_around e) → Found vs f → MatchOption f (r ≡ None) (λ e. IsSomeAnd r (Gives e)) → r ≡ box_of vs
+found-box gives (found_none z) n = n ∙ sym (ap box_of z)
+found-box {r = r} {Gives = Gives} gives (found_some {e = e} w b) g = some-gives r g ∙ sym b
+  where
+    some-gives : (r : Option SheetBox) → IsSomeAnd r (Gives e) → r ≡ Some (box_around e)
+    some-gives None h = absurd h
+    some-gives (Some b) h = ap Some (gives e b h)

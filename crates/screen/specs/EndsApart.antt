@@ -3,23 +3,24 @@
 --   Lined, end-lined   and lies on the line of the object's p and q, where that is no side
 --   lined-apart        two parallel objects with different k have no such end in common
 -- Assumes nothing.
-use Rattle.std.specs.Prelude.{◌≡◌, refl, true, [], ◌∷◌, ◌++◌, pos, negsuc, ◌-ℤ◌, ◌*ℤ◌, ◌<ℤ◌}
-use Rattle.std.proofs.Common.{sym, inl, inr}
+use Rattle.std.specs.Prelude.{◌≡◌, true, List, [], ◌∷◌, ◌++◌, Result, Ok, Err, ℤ, pos, negsuc, ◌-ℤ◌, ◌*ℤ◌, ◌<ℤ◌}
+use Rattle.std.proofs.Common.{sym, ◌∙◌, inl, inr}
 use Rattle.std.proofs.Math.Path.{subst}
+use Rattle.std.proofs.Math.IntN.{ℤ_discrete}
 use Rattle.whole.specs.Laws.{eq-of-sub}
 use Rattle.whole.specs.Reify.{reify, reading, solve, val_pos, val-negsuc}
 use Rattle.whole.specs.Cert.{z-eq, z-add, eq-cert, zero-cancel}
 use Rattle.sheet.specs.declared.Object.{Object}
 use Rattle.sheet.specs.declared.Point.{Point}
 use Rattle.sheet.specs.declared.Ends.{Ends}
-use Rattle.sheet.specs.declared.Ends.TheVariants as ends
+use Rattle.sheet.specs.declared.refusal.Refusal.{Refusal}
 use Rattle.sheet.specs.Figure.{Vec, ◌⇀◌, Figure, first, second, figure}
 use Rattle.sheet.specs.Refusal.{object_refusal, Accepted}
 use Rattle.sheet.specs.Points.{numbers, narrow, is_point}
 use Rattle.sheet.specs.Ends.{moment, reverse, first_of, last_of, first_end, last_end}
 use Rattle.sheet.specs.Crossing.{cross}
 use Rattle.sheet.specs.Answers.{answer, ends_say}
-use Rattle.sheet.specs.AnswersLaws.{ends-one, by_answer}
+use Rattle.sheet.specs.AnswersLaws.{ends-one, accepted, refused}
 use Rattle.sheet.proofs.RefusalLaws.{Proper, Taken, a_segment, a_ray, a_line, a_side, accepted-taken}
 use Rattle.sheet.specs.PointsLaws.{point-is, point-sizes}
 use Rattle.sheet.proofs.EndsLaws.{proper-way, reverse-way, first-end-is-point, last-end-is-point}
@@ -75,19 +76,29 @@ module _ {o : Object} (a : Accepted o) (n : o.kind ≡ pos 4 → ⊥) where
 
 -- ---- an end that an answer gives for o
 
-module _ (o : Object) (r : Ends) (said : ends_say r ≡ answer (object_refusal o) (numbers (first_end o) ++ numbers (last_end o)))
+module _ (o : Object) (r : Result Ends Refusal) (said : ends_say r ≡ answer (object_refusal o) (numbers (first_end o) ++ numbers (last_end o)))
     (e : Point) (i : EndIn e r) where
   -- what holds of both ends of o, where o is accepted, holds of it
   end_by : (F : Point → Type 0) → (Accepted o → F (first_end o) × F (last_end o)) → F e
-  end_by F both =
-      by_answer ends-one (λ (r : Ends). EndIn e r → F e) (ends.Both (first_end o) (last_end o)) (ends.Refused (object_refusal o)) refl refl
-      (λ z. given (both (record { accepted = z })))
-      (λ z i. absurd i)
-      r said i
+  end_by F both = go r said i
     where
-      given : F (first_end o) × F (last_end o) → EndIn e (ends.Both (first_end o) (last_end o)) → F e
-      given h (inl i) = subst F (sym i) h.0
-      given h (inr i) = subst F (sym i) h.1
+      values : List ℤ
+      values = numbers (first_end o) ++ numbers (last_end o)
+
+      of_both : EndIn e (Ok (record { first = first_end o; last = last_end o })) → F (first_end o) × F (last_end o) → F e
+      of_both (inl i) h = subst F (sym i) h.0
+      of_both (inr i) h = subst F (sym i) h.1
+
+      given : (a : Ends) → ends_say (Ok a) ≡ answer (object_refusal o) values → EndIn e (Ok a) → Dec (object_refusal o ≡ pos 0) → F e
+      given a s i (yes z) =
+          let both_ends : Ends = record { first = first_end o; last = last_end o } in
+          let same = ends-one (Ok a) (Ok both_ends) (s ∙ accepted values z) in
+          of_both (subst (EndIn e) same i) (both (record { accepted = z }))
+      given a s i (no d) = let h : ends_say (Ok a) ≡ object_refusal o ∷ [] = s ∙ refused values d in let none : ⊥ = cc in absurd none
+
+      go : (r : Result Ends Refusal) → ends_say r ≡ answer (object_refusal o) values → EndIn e r → F e
+      go (Ok a) s i = given a s i (ℤ_discrete (object_refusal o) (pos 0))
+      go (Err x) s i = absurd i
 
   pub end-narrow : (is_point e ≡ true) × (narrow e ≡ true)
   end-narrow = end_by (λ (e : Point). (is_point e ≡ true) × (narrow e ≡ true)) (λ a. (first-end-is-point a, last-end-is-point a))

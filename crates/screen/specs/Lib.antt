@@ -7,6 +7,7 @@ pub mod Shown
 -- what the code's inner functions say
 pub mod Parts
 pub mod ByNumber
+pub mod Extremes
 -- laws: floats
 pub mod Rounding
 pub mod ValuesLaws

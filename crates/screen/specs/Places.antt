@@ -1,21 +1,24 @@
 -- "A place is either a position with x and y as 64-bit floats, or an edge with its side number and a slope as a float." "An edge must also
 -- give n/w of the coordinate along the side": its offset.
-use Rattle.std.specs.Prelude.{Bool, cond, not, ◌&&◌, [], ◌∷◌, ℤ, pos, neg_ℤ}
+use Rattle.std.specs.Prelude.{Bool, cond, not, ◌&&◌, [], ◌∷◌, ℤ, pos, neg_ℤ, Result}
 use Rattle.whole.specs.Flag.{eq_z}
 use Rattle.sheet.specs.declared.Point.{Point}
+use Rattle.sheet.specs.declared.refusal.Refusal.{Refusal}
 use Rattle.sheet.specs.Figure.{Side, left, bottom, right, top, side_number}
 use Rattle.sheet.specs.Ends.{next_side}
 use Rattle.sheet.specs.Points.{standard}
 use Rattle.screen.specs.declared.OnScreen.{OnScreen}
-use Rattle.screen.specs.declared.OnScreen.TheVariants.{At, Edge, Refused}
+use Rattle.screen.specs.declared.OnScreen.TheVariants.{At, Edge}
 use Rattle.screen.specs.Quotient.{quotient}
-use Rattle.screen.specs.Values.{Values, refusal}
+use Rattle.screen.specs.Values.{Values, float_says}
 
--- what each place says: 0, then x and y, or the side number, the slope and the offset; or the refusal
-abbrev pub place_says : OnScreen → Values
-place_says (At x y) = record { wholes = pos 0 ∷ []; floats = x ∷ y ∷ [] }
-place_says (Edge n t o) = record { wholes = pos 0 ∷ n ∷ []; floats = t ∷ o ∷ [] }
-place_says (Refused n) = refusal n
+-- what each place says: 0, then x and y, or the side number, the slope and the offset
+abbrev pub on_screen_says : OnScreen → Values
+on_screen_says (At x y) = record { wholes = pos 0 ∷ []; floats = x ∷ y ∷ [] }
+on_screen_says (Edge n t o) = record { wholes = pos 0 ∷ n ∷ []; floats = t ∷ o ∷ [] }
+
+abbrev pub place_says : Result OnScreen Refusal → Values
+place_says = float_says on_screen_says
 
 -- ---- the side of a frame point
 

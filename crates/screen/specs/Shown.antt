@@ -1,11 +1,13 @@
 -- What the paper promises of a place and of a box: `Shown p r` is what r, the place that was given for p, has to do with p, and `BoxShown l r`
 -- what the box r has to do with the list l; and which objects have no place of an end in common. Definitions alone; `proofs/Shows` shows them
 -- of the calls.
-use Rattle.std.specs.Prelude.{◌≡◌, ◌⊎◌, true, false, List, [], ◌∷◌, ℕ, ◌<◌, Float, ℤ, pos, ◌≤ℤ◌}
+use Rattle.std.specs.Prelude.{◌≡◌, ◌⊎◌, true, false, List, [], ◌∷◌, ℕ, ◌<◌, Float, ℤ, pos, ◌≤ℤ◌, Option, Some, None, Result, Ok, Err}
 use Rattle.sheet.specs.declared.Object.{Object}
 use Rattle.sheet.specs.declared.Point.{Point}
 use Rattle.sheet.specs.declared.Ends.{Ends}
-use Rattle.sheet.specs.declared.Ends.TheVariants as ends
+use Rattle.sheet.specs.declared.refusal.Refusal.{Refusal}
+use Rattle.sheet.specs.declared.refusal.Refusal.TheVariants as refusal
+use Rattle.sheet.specs.Refused.{no_of}
 use Rattle.sheet.specs.Figure.{◌⇀◌, Side, side_number, first, second}
 use Rattle.sheet.specs.Points.{is_point, standard}
 use Rattle.sheet.specs.PointFacts.{Standard, Frame}
@@ -15,25 +17,24 @@ use Rattle.sheet.specs.Lists.{count_of, object_at, list_refusal}
 use Rattle.screen.specs.declared.OnScreen.{OnScreen}
 use Rattle.screen.specs.declared.OnScreen.TheVariants as place
 use Rattle.screen.specs.declared.Position.{Position}
-use Rattle.screen.specs.declared.Boxed.{Boxed}
-use Rattle.screen.specs.declared.Boxed.TheVariants as boxed
-use Rattle.screen.specs.Quotient.{zero+, quotient, Near}
+use Rattle.screen.specs.declared.SheetBox.{SheetBox}
+use Rattle.screen.specs.Quotient.{quotient, Near}
 use Rattle.screen.specs.Places.{goes_to, m_along, n_along}
 
 -- ---- a place
 
-pub data Shown (p : Point) : OnScreen → Type 0 where
-  a_position : {x y : Float} → Standard p → Near p.nx p.w x → Near p.ny p.w y → Shown p (place.At x y)
+pub data Shown (p : Point) : Result OnScreen Refusal → Type 0 where
+  a_position : {x y : Float} → Standard p → Near p.nx p.w x → Near p.ny p.w y → Shown p (Ok (place.At x y))
   an_edge : {t o : Float} (s : Side) → Frame p → goes_to s p ≡ true → Near (m_along s p) p.w t → Near (n_along s p) p.w o
-      → Shown p (place.Edge (side_number s) t o)
-  no-point : is_point p ≡ false → Shown p (place.Refused (pos 5))
+      → Shown p (Ok (place.Edge (side_number s) t o))
+  no-point : is_point p ≡ false → Shown p (Err refusal.NoPoint)
 
 -- ---- parallel objects
 
 -- p is one of the ends that an answer gives
-abbrev pub EndIn : Point → Ends → Type 0
-EndIn p (ends.Both a b) = (p ≡ a) ⊎ (p ≡ b)
-EndIn p (ends.Refused n) = ⊥
+abbrev pub EndIn : Point → Result Ends Refusal → Type 0
+EndIn p (Ok e) = (p ≡ e.first) ⊎ (p ≡ e.last)
+EndIn p (Err r) = ⊥
 
 -- "two parallel gauge lines": segments, rays or lines that run the same way or the opposite one, with different k. "k = dx py - dy px" is taken
 -- with dx and dy of the first for both, since those of the second may be longer, or turned round.
@@ -83,12 +84,9 @@ pub record Corner (x y : ℤ) (at : Position) : Type 0 where
   pub in_x : Shows x at.x
   pub in_y : Shows y at.y
 
-abbrev pub nought : Position
-nought = record { x = zero+; y = zero+ }
-
-pub data BoxShown (l : List ℤ) : Boxed → Type 0 where
-  box_refused : {n : ℤ} → n ≡ list_refusal l → (n ≡ pos 0 → ⊥) → BoxShown l (boxed.Refused n)
+pub data BoxShown (l : List ℤ) : Result (Option SheetBox) Refusal → Type 0 where
+  box_refused : {r : Refusal} → no_of r ≡ list_refusal l → (no_of r ≡ pos 0 → ⊥) → BoxShown l (Err r)
   around_none : list_refusal l ≡ pos 0 → ((p : Point) → StandardEnd l p → ⊥)
-      → BoxShown l (boxed.Around (record { low = nought; high = nought; none = true }))
+      → BoxShown l (Ok None)
   around : {lx ly hx hy : ℤ} {low high : Position} → list_refusal l ≡ pos 0 → Encloses l lx ly hx hy → Corner lx ly low → Corner hx hy high
-      → BoxShown l (boxed.Around (record { low = low; high = high; none = false }))
+      → BoxShown l (Ok (Some (record { low = low; high = high })))

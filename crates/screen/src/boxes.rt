@@ -1,126 +1,114 @@
 // The box of a whole sheet: the lowest and the highest x and y over the standard ends of its objects.
-ghost use Rattle.std.specs.Prelude.{◌≡◌, false, [], pos};
-ghost use Rattle.whole.specs.Within.{Within};
+ghost use Rattle.std.specs.Prelude.{◌≡◌, None};
 ghost use Rattle.sheet.specs.Figure.{figure};
 ghost use Rattle.sheet.specs.Lists.{list_refusal};
-ghost use Rattle.screen.specs.Quotient.{float};
 ghost use Rattle.screen.specs.Values.{float_answer};
-ghost use Rattle.screen.specs.Boxes.{standard_ends, ends_of, farther, part, farthest, box_of, box_says, boxed_says};
-ghost use Rattle.screen.specs.ByNumber.{stepped};
+ghost use Rattle.screen.specs.Boxes.{standard_ends, ends_of, nothing, box_of, box_says, boxed_says};
+ghost use Rattle.screen.specs.Extremes.{extremes_at, extremes_with, with_end, with_ends, box_around, AllWithin};
 
 use crate::quotient::exact;
-use crate::{Boxed, Position, SheetBox};
+use crate::{Position, SheetBox};
 use sheet::Object;
-use sheet::lists::{list_refusal, object_at};
+use sheet::lists::{check_list, object_at};
+use sheet::refusal::Refusal;
 
-// The higher of two numbers where up is true, else the lower.
-fn pick(up: bool, a: i64, b: i64) -> i64
-    ensures { result ≡ farther up a b }
-{
-    if (up & (a < b)) | (!up & (b < a)) {
-        return b;
-    }
-    a
+// The lowest and the highest x and y of some places.
+#[derive(Clone, Copy)]
+struct Extremes {
+    low_x: i64,
+    low_y: i64,
+    high_x: i64,
+    high_y: i64,
 }
 
-// The farthest so far, with one coordinate of an object's standard ends.
-fn step(up: bool, far: i64, kind: i64, p: i64, q: i64) -> i64
-    ensures { result ≡ stepped up far kind p q }
-{
-    if kind == Object::SEGMENT {
-        return pick(up, pick(up, far, p), q);
+impl Extremes {
+    // Of one place.
+    fn at(x: i64, y: i64) -> Extremes
+        ensures { result ≡ extremes_at (record { x = x; y = y }) }
+    {
+        Extremes {
+            low_x: x,
+            low_y: y,
+            high_x: x,
+            high_y: y,
+        }
     }
-    if kind == Object::RAY {
-        return pick(up, far, p);
+
+    // Of those places and one more.
+    fn with(self, x: i64, y: i64) -> Extremes
+        ensures { result ≡ extremes_with self (record { x = x; y = y }) }
+    {
+        Extremes {
+            low_x: self.low_x.min(x),
+            low_y: self.low_y.min(y),
+            high_x: self.high_x.max(x),
+            high_y: self.high_y.max(y),
+        }
     }
-    far
 }
 
-// Of x and y, x at axis 0, else y.
-fn along(axis: usize, x: i64, y: i64) -> i64
-    ensures { result ≡ part axis (record { x = x; y = y }) }
+// Those of some places, if there are any, and one more.
+fn with_end(extremes: Option<Extremes>, x: i64, y: i64) -> Option<Extremes>
+    ensures { result ≡ with_end extremes (record { x = x; y = y }) }
 {
-    if axis == 0 {
-        return x;
+    match extremes {
+        Some(e) => Some(e.with(x, y)),
+        None => Some(Extremes::at(x, y)),
     }
-    y
 }
 
-// The farthest of a number and one coordinate of an object's standard ends.
-fn with_object(up: bool, axis: usize, far: i64, o: Object) -> i64
-    ensures { result ≡ farthest up axis far (standard_ends (figure o)) }
+// Those of some places, if there are any, and the standard ends of an object.
+fn with_object(extremes: Option<Extremes>, o: Object) -> Option<Extremes>
+    ensures { result ≡ with_ends extremes (standard_ends (figure o)) }
 {
-    let p = along(axis, o.px, o.py);
-    let q = along(axis, o.qx, o.qy);
-    step(up, far, o.kind, p, q)
-}
-
-// The farthest of a number and one coordinate of all standard ends.
-fn farthest_end(list: &[i64], up: bool, axis: usize, start: i64) -> i64
-    ensures { result ≡ farthest up axis start (ends_of list.now) }
-{
-    let n = list.len() / Object::WIDTH;
-    let mut far = start;
-    let mut i = 0;
-    while i < n {
-        far = with_object(up, axis, far, object_at(list, i));
-        i += 1;
+    match o.kind {
+        Object::SEGMENT => with_end(with_end(extremes, o.px, o.py), o.qx, o.qy),
+        Object::RAY => with_end(extremes, o.px, o.py),
+        _ => extremes,
     }
-    far
 }
 
-// Where there is no standard end.
-fn nothing() -> SheetBox
-    ensures { result ≡ box_of [] }
+// Those of all standard ends, if there are any.
+fn extremes_of(list: &[i64]) -> Option<Extremes>
+    ensures { result ≡ with_ends None (ends_of list.now) }
+{
+    let mut extremes = None;
+    for i in 0..list.len() / Object::WIDTH {
+        extremes = with_object(extremes, object_at(list, i));
+    }
+    extremes
+}
+
+// What stands for no box where four numbers have to: +0 four times.
+pub fn nothing() -> SheetBox
+    ensures { result ≡ nothing }
 {
     SheetBox {
         low: Position { x: 0.0, y: 0.0 },
         high: Position { x: 0.0, y: 0.0 },
-        none: true,
     }
 }
 
-fn around(lx: i64, ly: i64, hx: i64, hy: i64) -> SheetBox
-    requires { Within 2000 lx × Within 2000 ly × Within 2000 hx × Within 2000 hy }
-    ensures { result ≡ record { low = record { x = float lx; y = float ly }; high = record { x = float hx; y = float hy }; none = false } }
+fn around(e: Extremes) -> SheetBox
+    requires { AllWithin 2000 e }
+    ensures { result ≡ box_around e }
 {
     SheetBox {
         low: Position {
-            x: exact(lx),
-            y: exact(ly),
+            x: exact(e.low_x),
+            y: exact(e.low_y),
         },
         high: Position {
-            x: exact(hx),
-            y: exact(hy),
+            x: exact(e.high_x),
+            y: exact(e.high_y),
         },
-        none: false,
     }
 }
 
-// The box of a sheet that is not refused.
-fn box_around(list: &[i64]) -> SheetBox
-    requires { list_refusal list.now ≡ pos 0 }
-    ensures { result ≡ box_of (ends_of list.now) }
-{
-    let above = Object::REACH + 1;
-    let below = -above;
-    let low_x = farthest_end(list, false, 0, above);
-    if low_x == above {
-        return nothing();
-    }
-    let low_y = farthest_end(list, false, 1, above);
-    let high_x = farthest_end(list, true, 0, below);
-    let high_y = farthest_end(list, true, 1, below);
-    around(low_x, low_y, high_x, high_y)
-}
-
-// The box of all objects of a list, six numbers each.
-pub fn box_of(list: &[i64]) -> Boxed
+// The box of all objects of a list, six numbers each; none where no object has a standard end.
+pub fn box_of(list: &[i64]) -> Result<Option<SheetBox>, Refusal>
     ensures { boxed_says result ≡ float_answer (list_refusal list.now) (box_says (box_of (ends_of list.now))) }
 {
-    let refusal = list_refusal(list);
-    if refusal != 0 {
-        return Boxed::Refused(refusal);
-    }
-    Boxed::Around(box_around(list))
+    check_list(list)?;
+    Ok(extremes_of(list).map(around))
 }

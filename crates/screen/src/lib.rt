@@ -5,12 +5,11 @@ pub mod boxes;
 pub mod places;
 mod quotient;
 
-// Where a point is: a position x, y; the number of a frame side, the slope toward it and the offset along it; or the number of the refusal.
+// Where a point is: a position x, y; or the number of a frame side, the slope toward it and the offset along it.
 #[derive(Clone, Copy)]
 pub enum OnScreen {
     At(f64, f64),
     Edge(i64, f64, f64),
-    Refused(i64),
 }
 
 // A position, as floats.
@@ -20,17 +19,9 @@ pub struct Position {
     pub y: f64,
 }
 
-// A box: the lowest and the highest x and y, and whether there is nothing to be around, where all four are +0.
+// A box: the lowest and the highest x and y.
 #[derive(Clone, Copy)]
 pub struct SheetBox {
     pub low: Position,
     pub high: Position,
-    pub none: bool,
-}
-
-// The box that was asked for, or the number of the refusal.
-#[derive(Clone, Copy)]
-pub enum Boxed {
-    Around(SheetBox),
-    Refused(i64),
 }

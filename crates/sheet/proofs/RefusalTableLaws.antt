@@ -6,8 +6,9 @@
 --   known-object, known-point, known-order, known-turn, known-side-sign, known-circle, known-crossing, known-list, known-index,
 --   known-room                what the definitions refuse by is of the table
 --   refusal-in                what an answer refuses by
+--   numbers-are               the numbers of the code's refusals are the table
 -- Assumes nothing.
-use Rattle.std.specs.Prelude.{◌≡◌, refl, ◌⊎◌, Bool, true, false, cond, not, ◌&&◌, ◌||◌, List, [], ◌∷◌, ℕ, ◌%◌, eqb, ltb, ℤ, pos, nat_abs, length}
+use Rattle.std.specs.Prelude.{◌≡◌, refl, ◌⊎◌, Bool, true, false, cond, not, ◌&&◌, ◌||◌, List, [], ◌∷◌, ◌++◌, ℕ, ◌%◌, eqb, ltb, ℤ, pos, nat_abs, length, map}
 use Rattle.std.proofs.Common.{sym, ap, ◌∙◌, inl, inr, ⊎_elim, true≢false, eqb-true}
 use Rattle.whole.specs.InTurnLaws.{turn-all}
 use Rattle.whole.specs.Flag.{eq_z}
@@ -17,7 +18,11 @@ use Rattle.sheet.specs.declared.Point.{Point}
 use Rattle.sheet.specs.Limits.{most, last_tag}
 use Rattle.sheet.specs.Flags.{both, either}
 use Rattle.sheet.specs.Refusal.{outside, any_beyond, equal, no_side, pair_refusal, side_refusal, refusal_of, tag_refusal, object_refusal}
-use Rattle.sheet.specs.RefusalTable.{among, OneOf, Known}
+use Rattle.sheet.specs.declared.refusal.Refusal.TheVariants as refusal
+use Rattle.sheet.specs.declared.refusal.Unfilled.{Unfilled}
+use Rattle.sheet.specs.declared.refusal.Unfilled.TheVariants as unfilled
+use Rattle.sheet.specs.Refused.{unfilled_no}
+use Rattle.sheet.specs.RefusalTable.{refusals, among, OneOf, Known}
 use Rattle.sheet.specs.Points.{standard, is_point, narrow, point_refusal}
 use Rattle.sheet.specs.Signs.{order_refusal, wide_refusal, turn_refusal, side_sign_refusal}
 use Rattle.whole.specs.Choice.{or_else}
@@ -133,3 +138,16 @@ known-room n short h = known-or n _ h (cond-by Known short (λ e. one_of 10 refl
 
 pub refusal-in : (n : ℤ) (values : List ℤ) → refusal_in (answer n values) ≡ n
 refusal-in n values = cond-by (λ (l : List ℤ). refusal_in l ≡ n) (eq_z n (pos 0)) (λ e. sym (eq_z-true e)) (λ e. refl)
+
+-- ---- the code's refusals
+
+-- why lent cells are not filled, each once and in the table's order
+abbrev pub every : List Unfilled
+every =
+    map unfilled.Refused (refusal.NoKind ∷ refusal.TooFar ∷ refusal.SamePoints ∷ refusal.NoSide ∷ refusal.NoPoint ∷ refusal.WidePoint ∷ refusal.BytesEnd
+    ∷ refusal.BadNumber ∷ refusal.BytesAfter ∷ [])
+    ++ unfilled.NoRoom 0
+    ∷ map unfilled.Refused (refusal.TooMany ∷ refusal.NoObject ∷ refusal.ListLength ∷ refusal.NoTag ∷ refusal.TagLost ∷ refusal.NotGiven ∷ [])
+
+pub numbers-are : map unfilled_no every ≡ map pos refusals
+numbers-are = refl

@@ -9,26 +9,23 @@
 --   crossing-says               what two objects share as it is answered
 --   crossing-met, met_by        an answer as what they share; and back
 -- Assumes nothing.
-use Rattle.std.specs.Prelude.{◌≡◌, refl, List, [], ◌∷◌, ℕ, ℤ, pos}
-use Rattle.std.proofs.Common.{sym, ◌∙◌, ap, ap₂, subst, arith, SFits, of_z}
+use Rattle.std.specs.Prelude.{◌≡◌, refl, List, [], ◌∷◌, ℕ, ℤ, pos, Result}
+use Rattle.std.proofs.Common.{sym, ◌∙◌, ap, subst, arith, SFits, of_z}
 use Rattle.std.proofs.Math.IntN.{ℤ_discrete}
 use Rattle.std.specs.Int.{w64}
 use Rattle.whole.specs.Tests.{eq-eq_z, ne-eq_z, eq-left, out, out-is, Fit, fits-ok, lit-taken}
 use Rattle.sheet.specs.declared.Object.{Object}
 use Rattle.sheet.specs.declared.Point.{Point}
-use Rattle.sheet.specs.declared.Made.{Made}
-use Rattle.sheet.specs.declared.Made.TheVariants as made
 use Rattle.sheet.specs.declared.Ends.{Ends}
-use Rattle.sheet.specs.declared.Ends.TheVariants as ends
-use Rattle.sheet.specs.declared.Signed.{Signed}
-use Rattle.sheet.specs.declared.Signed.TheVariants as signed
 use Rattle.sheet.specs.declared.Crossing.{Crossing}
+use Rattle.sheet.specs.declared.refusal.Refusal.{Refusal}
 use Rattle.sheet.specs.declared.Crossing.TheVariants as crossing
 use Rattle.sheet.specs.Points.{numbers}
 use Rattle.whole.specs.Choice.{or_else}
 use Rattle.whole.specs.ChoiceLaws.{or-first, or-next}
 use Rattle.sheet.specs.Crossing.{Meeting, none, point, many}
-use Rattle.sheet.specs.Answers.{answer, object_numbers, made_says, ends_say, signed_says, meeting_numbers, crossing_says}
+use Rattle.sheet.specs.Answers.{answer, object_numbers, made_says, ends_numbers, ends_say, signed_says, meeting_numbers, crossing_numbers, crossing_says}
+use Rattle.sheet.specs.RefusedLaws.{says-one}
 use Rattle.sheet.specs.Meetings.{crossing_by, meeting_by}
 
 pub accepted : {n : ℤ} (values : List ℤ) → n ≡ pos 0 → answer n values ≡ pos 0 ∷ values
@@ -89,48 +86,38 @@ point-one a b e =
     let e5 : a.w ≡ b.w = cc in
     λ i. record { mx = e1 i; nx = e2 i; my = e3 i; ny = e4 i; w = e5 i }
 
-pub made_one : (r s : Made) → made_says r ≡ made_says s → r ≡ s
-made_one (made.Done a) (made.Done b) e = let e1 : object_numbers a ≡ object_numbers b = cc in ap made.Done (object-one a b e1)
-made_one (made.Done a) (made.Refused n) e = let z : ◌≡◌ {A = ℕ} 0 1 = cc in absurd (omega arith)
-made_one (made.Refused n) (made.Done b) e = let z : ◌≡◌ {A = ℕ} 0 1 = cc in absurd (omega arith)
-made_one (made.Refused n) (made.Refused m) e = let e1 : n ≡ m = cc in ap made.Refused e1
+pub made_one : (r s : Result Object Refusal) → made_says r ≡ made_says s → r ≡ s
+made_one = says-one object-one
 
-pub ends-one : (r s : Ends) → ends_say r ≡ ends_say s → r ≡ s
-ends-one (ends.Both p q) (ends.Both p' q') e =
-    let e1 : numbers p ≡ numbers p' = cc in
-    let e2 : numbers q ≡ numbers q' = cc in
-    ap₂ ends.Both (point-one p p' e1) (point-one q q' e2)
-ends-one (ends.Both p q) (ends.Refused n) e = let z : ◌≡◌ {A = ℕ} 0 1 = cc in absurd (omega arith)
-ends-one (ends.Refused n) (ends.Both p q) e = let z : ◌≡◌ {A = ℕ} 0 1 = cc in absurd (omega arith)
-ends-one (ends.Refused n) (ends.Refused m) e = let e1 : n ≡ m = cc in ap ends.Refused e1
+two-ends-one : (e f : Ends) → ends_numbers e ≡ ends_numbers f → e ≡ f
+two-ends-one e f h =
+    let e1 : numbers e.first ≡ numbers f.first = cc in
+    let e2 : numbers e.last ≡ numbers f.last = cc in
+    λ i. record { first = point-one e.first f.first e1 i; last = point-one e.last f.last e2 i }
 
-pub signed-one : (r s : Signed) → signed_says r ≡ signed_says s → r ≡ s
-signed-one (signed.Sign a) (signed.Sign b) e = let e1 : a ≡ b = cc in ap signed.Sign e1
-signed-one (signed.Sign a) (signed.Refused n) e = let z : ◌≡◌ {A = ℕ} 0 1 = cc in absurd (omega arith)
-signed-one (signed.Refused n) (signed.Sign b) e = let z : ◌≡◌ {A = ℕ} 0 1 = cc in absurd (omega arith)
-signed-one (signed.Refused n) (signed.Refused m) e = let e1 : n ≡ m = cc in ap signed.Refused e1
+pub ends-one : (r s : Result Ends Refusal) → ends_say r ≡ ends_say s → r ≡ s
+ends-one = says-one two-ends-one
 
-pub crossing-one : (r s : Crossing) → crossing_says r ≡ crossing_says s → r ≡ s
-crossing-one crossing.Nothing crossing.Nothing e = refl
-crossing-one crossing.Nothing (crossing.Once q) e = let z : ◌≡◌ {A = ℕ} 0 1 = cc in absurd (omega arith)
-crossing-one crossing.Nothing crossing.Many e = let z : ◌≡◌ {A = ℕ} 0 2 = cc in absurd (omega arith)
-crossing-one crossing.Nothing (crossing.Refused m) e = let z : ◌≡◌ {A = ℕ} 0 1 = cc in absurd (omega arith)
-crossing-one (crossing.Once p) crossing.Nothing e = let z : ◌≡◌ {A = ℕ} 0 1 = cc in absurd (omega arith)
-crossing-one (crossing.Once p) (crossing.Once q) e = let e1 : numbers p ≡ numbers q = cc in ap crossing.Once (point-one p q e1)
-crossing-one (crossing.Once p) crossing.Many e = let z : ◌≡◌ {A = ℕ} 1 2 = cc in absurd (omega arith)
-crossing-one (crossing.Once p) (crossing.Refused m) e = let z : ◌≡◌ {A = ℕ} 0 1 = cc in absurd (omega arith)
-crossing-one crossing.Many crossing.Nothing e = let z : ◌≡◌ {A = ℕ} 0 2 = cc in absurd (omega arith)
-crossing-one crossing.Many (crossing.Once q) e = let z : ◌≡◌ {A = ℕ} 1 2 = cc in absurd (omega arith)
-crossing-one crossing.Many crossing.Many e = refl
-crossing-one crossing.Many (crossing.Refused m) e = let z : ◌≡◌ {A = ℕ} 0 1 = cc in absurd (omega arith)
-crossing-one (crossing.Refused n) crossing.Nothing e = let z : ◌≡◌ {A = ℕ} 0 1 = cc in absurd (omega arith)
-crossing-one (crossing.Refused n) (crossing.Once q) e = let z : ◌≡◌ {A = ℕ} 0 1 = cc in absurd (omega arith)
-crossing-one (crossing.Refused n) crossing.Many e = let z : ◌≡◌ {A = ℕ} 0 1 = cc in absurd (omega arith)
-crossing-one (crossing.Refused n) (crossing.Refused m) e = let e1 : n ≡ m = cc in ap crossing.Refused e1
+pub signed-one : (r s : Result ℤ Refusal) → signed_says r ≡ signed_says s → r ≡ s
+signed-one = says-one (λ a b e. let e1 : a ≡ b = cc in e1)
+
+pub share-one : (r s : Crossing) → crossing_numbers r ≡ crossing_numbers s → r ≡ s
+share-one crossing.Nothing crossing.Nothing e = refl
+share-one crossing.Nothing (crossing.Once q) e = let z : ◌≡◌ {A = ℕ} 0 1 = cc in absurd (omega arith)
+share-one crossing.Nothing crossing.Many e = let z : ◌≡◌ {A = ℕ} 0 2 = cc in absurd (omega arith)
+share-one (crossing.Once p) crossing.Nothing e = let z : ◌≡◌ {A = ℕ} 0 1 = cc in absurd (omega arith)
+share-one (crossing.Once p) (crossing.Once q) e = let e1 : numbers p ≡ numbers q = cc in ap crossing.Once (point-one p q e1)
+share-one (crossing.Once p) crossing.Many e = let z : ◌≡◌ {A = ℕ} 1 2 = cc in absurd (omega arith)
+share-one crossing.Many crossing.Nothing e = let z : ◌≡◌ {A = ℕ} 0 2 = cc in absurd (omega arith)
+share-one crossing.Many (crossing.Once q) e = let z : ◌≡◌ {A = ℕ} 1 2 = cc in absurd (omega arith)
+share-one crossing.Many crossing.Many e = refl
+
+pub crossing-one : (r s : Result Crossing Refusal) → crossing_says r ≡ crossing_says s → r ≡ s
+crossing-one = says-one share-one
 
 -- ---- a crossing as it is answered, and back
 
-pub crossing-says : (m : Meeting) → crossing_says (crossing_by m) ≡ pos 0 ∷ meeting_numbers m
+pub crossing-says : (m : Meeting) → crossing_numbers (crossing_by m) ≡ meeting_numbers m
 crossing-says none = refl
 crossing-says (point p) = refl
 crossing-says many = refl
@@ -140,5 +127,5 @@ crossing-met none = refl
 crossing-met (point p) = refl
 crossing-met many = refl
 
-pub met_by : (r : Crossing) (m : Meeting) → crossing_says r ≡ pos 0 ∷ meeting_numbers m → meeting_by r ≡ m
-met_by r m e = ap meeting_by (crossing-one r (crossing_by m) (e ∙ sym (crossing-says m))) ∙ crossing-met m
+pub met_by : (r : Crossing) (m : Meeting) → crossing_numbers r ≡ meeting_numbers m → meeting_by r ≡ m
+met_by r m e = ap meeting_by (share-one r (crossing_by m) (e ∙ sym (crossing-says m))) ∙ crossing-met m

@@ -2,6 +2,7 @@
 pub mod Limits
 pub mod Figure
 pub mod Refusal
+pub mod Refused
 pub mod RefusalTable
 pub mod Points
 pub mod PointFacts
@@ -43,4 +44,5 @@ pub mod InsideLaws
 -- laws: lists and answers
 pub mod ListsLaws
 pub mod LentLaws
+pub mod RefusedLaws
 pub mod AnswersLaws

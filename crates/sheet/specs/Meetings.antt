@@ -8,9 +8,7 @@ crossing_by none = crossing.Nothing
 crossing_by (point p) = crossing.Once p
 crossing_by many = crossing.Many
 
--- of accepted objects the kernel never refuses
 abbrev pub meeting_by : Crossing → Meeting
 meeting_by crossing.Nothing = none
 meeting_by (crossing.Once p) = point p
 meeting_by crossing.Many = many
-meeting_by (crossing.Refused n) = none

@@ -1,15 +1,13 @@
 -- The sides of the frame, ends, signs and crossings, worked out by document 01's numbers. Its own worked rows are in store/specs/Rows; here
 -- is what they leave open. A definition that says something else is refused here, whatever the code does.
-use Rattle.std.specs.Prelude.{◌≡◌, refl, List, [], ◌∷◌, map, pos}
+use Rattle.std.specs.Prelude.{◌≡◌, refl, List, [], ◌∷◌, map, pos, Ok, Err}
 use Rattle.whole.specs.Sign.{sgn}
 use Rattle.whole.specs.Divisor.{steps, gcd, gcd_of}
 use Rattle.whole.specs.Poly.{leading}
 use Rattle.sheet.specs.declared.Object.{Object}
 use Rattle.sheet.specs.declared.Point.{Point}
-use Rattle.sheet.specs.declared.Made.TheVariants as made
-use Rattle.sheet.specs.declared.Ends.TheVariants as ends
-use Rattle.sheet.specs.declared.Signed.TheVariants as signed
 use Rattle.sheet.specs.declared.Crossing.TheVariants as crossed
+use Rattle.sheet.specs.declared.refusal.Refusal.TheVariants as refusal
 use Rattle.sheet.specs.Figure.{side_number, side_of, figure_of}
 use Rattle.sheet.specs.Figure as frame
 use Rattle.sheet.specs.Points.{divided}
@@ -112,15 +110,15 @@ pub record WorkedAnswers : Type 0 where
       × (meeting_numbers (crossing.point top_left) ≡ pos 1 ∷ minus 1 ∷ pos 0 ∷ pos 1 ∷ pos 0 ∷ pos 1 ∷ [])
   -- what each answer says: 0 and its values, or the number of the refusal alone
   made-says :
-      (made_says (made.Done (tagged (pos 7) (side (pos 3)))) ≡ pos 0 ∷ pos 4 ∷ pos 3 ∷ pos 0 ∷ pos 0 ∷ pos 0 ∷ pos 7 ∷ [])
-      × (made_says (made.Refused (pos 2)) ≡ pos 2 ∷ [])
+      (made_says (Ok (tagged (pos 7) (side (pos 3)))) ≡ pos 0 ∷ pos 4 ∷ pos 3 ∷ pos 0 ∷ pos 0 ∷ pos 0 ∷ pos 7 ∷ [])
+      × (made_says (Err refusal.TooFar) ≡ pos 2 ∷ [])
   ends-say :
-      (ends_say (ends.Both up top_right) ≡ pos 0 ∷ pos 0 ∷ pos 0 ∷ pos 0 ∷ pos 1 ∷ pos 1 ∷ pos 1 ∷ pos 0 ∷ pos 1 ∷ pos 0 ∷ pos 1 ∷ [])
-      × (ends_say (ends.Refused (pos 3)) ≡ pos 3 ∷ [])
-  signed-says : (signed_says (signed.Sign (minus 1)) ≡ pos 0 ∷ minus 1 ∷ []) × (signed_says (signed.Refused (pos 6)) ≡ pos 6 ∷ [])
+      (ends_say (Ok (record { first = up; last = top_right })) ≡ pos 0 ∷ pos 0 ∷ pos 0 ∷ pos 0 ∷ pos 1 ∷ pos 1 ∷ pos 1 ∷ pos 0 ∷ pos 1 ∷ pos 0 ∷ pos 1 ∷ [])
+      × (ends_say (Err refusal.SamePoints) ≡ pos 3 ∷ [])
+  signed-says : (signed_says (Ok (minus 1)) ≡ pos 0 ∷ minus 1 ∷ []) × (signed_says (Err refusal.WidePoint) ≡ pos 6 ∷ [])
   crossing-says :
-      (crossing_says crossed.Nothing ≡ pos 0 ∷ pos 0 ∷ []) × (crossing_says (crossed.Once up) ≡ pos 0 ∷ pos 1 ∷ pos 0 ∷ pos 0 ∷ pos 0 ∷ pos 1 ∷ pos 1 ∷ [])
-      × (crossing_says crossed.Many ≡ pos 0 ∷ pos 2 ∷ []) × (crossing_says (crossed.Refused (pos 1)) ≡ pos 1 ∷ [])
+      (crossing_says (Ok crossed.Nothing) ≡ pos 0 ∷ pos 0 ∷ []) × (crossing_says (Ok (crossed.Once up)) ≡ pos 0 ∷ pos 1 ∷ pos 0 ∷ pos 0 ∷ pos 0 ∷ pos 1 ∷ pos 1 ∷ [])
+      × (crossing_says (Ok crossed.Many) ≡ pos 0 ∷ pos 2 ∷ []) × (crossing_says (Err refusal.NoKind) ≡ pos 1 ∷ [])
   -- on one line: aslant, along x, along y
   touching :
       (crossing_of (segment (pos 0) (pos 0) (pos 1) (pos 1)) (segment (pos 1) (pos 1) (pos 2) (pos 2)) ≡ crossing.point (at (pos 1) (pos 1)))

@@ -4,17 +4,11 @@ ghost use Rattle.std.specs.Prelude.{[], ◌∷◌, ◌≡◌, ◌+◌, ◌≤◌
 ghost use Rattle.std.proofs.lemmas.List.Edits.{sets};
 ghost use Rattle.sheet.specs.Lent.{clipped, Wrote};
 
-// The largest place that there is.
-const LARGEST: usize = usize::MAX;
-
 // The place so many cells behind a place; the largest, where there is none.
 pub fn behind(at: usize, count: usize) -> usize
     ensures { result ≡ clipped (at + count) }
 {
-    if LARGEST - at < count {
-        return LARGEST;
-    }
-    at + count
+    at.saturating_add(count)
 }
 
 // A byte at a place of the lent bytes; a place that they do not have is passed by.
@@ -28,20 +22,15 @@ pub fn put_byte(b: u8, out: &mut [u8], at: usize) -> usize
     behind(at, 1)
 }
 
-// The first so many of some numbers, at a place of a list that has room for them. It goes over all of them, so that numbers of which the
-// compiler knows how many they are stay in registers.
-fn copy_numbers(numbers: &[i64], count: usize, out: &mut [i64], at: usize)
-    requires { (count ≤ length numbers.now) × (at + count ≤ length out.old) }
-    ensures { out.new ≡ sets out.old at (take count numbers.now) }
+// As many of some numbers as there are cells. It stands apart, since few pieces meet the end of the cells: of the others, of which the compiler
+// knows how many numbers they are, the copy then stays in registers.
+#[cold]
+fn fill(cells: &mut [i64], numbers: &[i64])
+    requires { length cells.old ≤ length numbers.now }
+    ensures { cells.new ≡ take (length cells.old) numbers.now }
 {
-    let mut i = 0;
-    while i < numbers.len() {
-        if i < count {
-            let n = numbers[i];
-            out[at + i] = n;
-        }
-        i += 1;
-    }
+    let count = cells.len();
+    cells.copy_from_slice(&numbers[..count]);
 }
 
 // Some numbers at a place of a lent list; places that it does not have are passed by.
@@ -54,9 +43,9 @@ pub fn put_numbers(numbers: &[i64], out: &mut [i64], at: usize) -> usize
     }
     let room = out.len() - at;
     if room < count {
-        copy_numbers(numbers, room, out, at);
+        fill(&mut out[at..], numbers);
         return behind(at, count);
     }
-    copy_numbers(numbers, count, out, at);
+    out[at..at + count].copy_from_slice(numbers);
     at + count
 }

@@ -8,13 +8,16 @@ pub mod refusal;
 ghost use Rattle.std.specs.Prelude.{◌≡◌, pos};
 ghost use Rattle.sheet.specs.Limits.{reach, most, last_tag};
 ghost use Rattle.sheet.specs.Refusal.{outside, beyond, any_beyond, equal, no_side, pair_refusal, side_refusal, refusal_of, tag_refusal, object_refusal};
+ghost use Rattle.sheet.specs.Refused.{refused_by};
 ghost use Rattle.sheet.specs.Answers.{made_says, makes};
 ghost use Rattle.sheet.specs.Lists.{width};
 ghost use Rattle.sheet.specs.Points.{given};
 ghost use Rattle.sheet.specs.Ends.{corner};
 
+use refusal::Refusal;
+
 // An object of a sheet. Kind 1 is a segment, 2 a ray, 3 a line, each from p toward q; kind 4 is the frame's side of number px. The tag tells
-// which layer it is of, and nothing else depends on it.
+// which layer it is of, and nothing else depends on it. Kinds are numbers and no enum: C hands an object in by value, and any number is taken.
 #[repr(C)]
 #[derive(Clone, Copy)]
 pub struct Object {
@@ -37,34 +40,19 @@ pub struct Point {
     pub w: i64,
 }
 
-// An object that was asked for, or the number of the refusal.
+// The two ends of an object in its direction.
 #[derive(Clone, Copy)]
-pub enum Made {
-    Done(Object),
-    Refused(i64),
+pub struct Ends {
+    pub first: Point,
+    pub last: Point,
 }
 
-// The two ends of an object in its direction, or the number of the refusal.
-#[derive(Clone, Copy)]
-pub enum Ends {
-    Both(Point, Point),
-    Refused(i64),
-}
-
-// A sign: -1, 0 or 1; or the number of the refusal.
-#[derive(Clone, Copy)]
-pub enum Signed {
-    Sign(i64),
-    Refused(i64),
-}
-
-// What two objects share: nothing, one point, or many; or the number of the refusal.
+// What two objects share: nothing, one point, or many.
 #[derive(Clone, Copy)]
 pub enum Crossing {
     Nothing,
     Once(Point),
     Many,
-    Refused(i64),
 }
 
 impl Object {
@@ -85,25 +73,26 @@ impl Object {
 
     pub const SIDE: i64 = 4;
 
-    pub fn segment(px: i64, py: i64, qx: i64, qy: i64, tag: i64) -> Made
+    // The paper has four makers, one a kind. Each is `make` of its kind, which says all there is to say once.
+    pub fn segment(px: i64, py: i64, qx: i64, qy: i64, tag: i64) -> Result<Object, Refusal>
         ensures { made_says result ≡ makes (pos 1) px py qx qy tag }
     {
         make(Object::SEGMENT, px, py, qx, qy, tag)
     }
 
-    pub fn ray(px: i64, py: i64, qx: i64, qy: i64, tag: i64) -> Made
+    pub fn ray(px: i64, py: i64, qx: i64, qy: i64, tag: i64) -> Result<Object, Refusal>
         ensures { made_says result ≡ makes (pos 2) px py qx qy tag }
     {
         make(Object::RAY, px, py, qx, qy, tag)
     }
 
-    pub fn line(px: i64, py: i64, qx: i64, qy: i64, tag: i64) -> Made
+    pub fn line(px: i64, py: i64, qx: i64, qy: i64, tag: i64) -> Result<Object, Refusal>
         ensures { made_says result ≡ makes (pos 3) px py qx qy tag }
     {
         make(Object::LINE, px, py, qx, qy, tag)
     }
 
-    pub fn side(n: i64, tag: i64) -> Made
+    pub fn side(n: i64, tag: i64) -> Result<Object, Refusal>
         ensures { made_says result ≡ makes (pos 4) n (pos 0) (pos 0) (pos 0) tag }
     {
         make(Object::SIDE, n, 0, 0, 0, tag)
@@ -147,7 +136,7 @@ impl Point {
     }
 }
 
-fn make(kind: i64, px: i64, py: i64, qx: i64, qy: i64, tag: i64) -> Made
+fn make(kind: i64, px: i64, py: i64, qx: i64, qy: i64, tag: i64) -> Result<Object, Refusal>
     ensures { made_says result ≡ makes kind px py qx qy tag }
 {
     let object = Object {
@@ -158,11 +147,8 @@ fn make(kind: i64, px: i64, py: i64, qx: i64, qy: i64, tag: i64) -> Made
         qy,
         tag,
     };
-    let no = object_refusal(object);
-    if no != 0 {
-        return Made::Refused(no);
-    }
-    Made::Done(object)
+    check_object(object)?;
+    Ok(object)
 }
 
 fn is_outside(lo: i64, hi: i64, z: i64) -> bool
@@ -184,7 +170,7 @@ fn any_beyond(px: i64, py: i64, qx: i64, qy: i64) -> bool
     is_beyond(px) | is_beyond(py) | is_beyond(qx) | is_beyond(qy)
 }
 
-// Whether p and q are equal.
+// Whether p and q are equal. An object has them as four numbers and no two points, since C hands it in.
 pub fn are_equal(px: i64, py: i64, qx: i64, qy: i64) -> bool
     ensures { result ≡ equal px py qx qy }
 {
@@ -197,58 +183,57 @@ fn is_no_side(n: i64, a: i64, b: i64, c: i64) -> bool
     (n < 1) | (4 < n) | !(a == 0) | !(b == 0) | !(c == 0)
 }
 
-// The refusal of two given points, 2 and then 3; 0 for none.
-fn pair_refusal(px: i64, py: i64, qx: i64, qy: i64) -> i64
-    ensures { result ≡ pair_refusal px py qx qy }
+// Two given points are refused by 2 and then 3.
+fn check_pair(px: i64, py: i64, qx: i64, qy: i64) -> Result<(), Refusal>
+    ensures { refused_by result ≡ pair_refusal px py qx qy }
 {
     if any_beyond(px, py, qx, qy) {
-        return refusal::TOO_FAR;
+        return Err(Refusal::TooFar);
     }
     if are_equal(px, py, qx, qy) {
-        return refusal::SAME_POINTS;
+        return Err(Refusal::SamePoints);
     }
-    0
+    Ok(())
 }
 
-// The refusal of a side number with the three numbers after it, 4; 0 for none.
-fn side_refusal(n: i64, a: i64, b: i64, c: i64) -> i64
-    ensures { result ≡ side_refusal n a b c }
+// A side number with the three numbers after it is refused by 4.
+fn check_side(n: i64, a: i64, b: i64, c: i64) -> Result<(), Refusal>
+    ensures { refused_by result ≡ side_refusal n a b c }
 {
     if is_no_side(n, a, b, c) {
-        return refusal::NO_SIDE;
+        return Err(Refusal::NoSide);
     }
-    0
+    Ok(())
 }
 
-// The refusal of what an object is, before its tag.
-fn refusal_of(kind: i64, px: i64, py: i64, qx: i64, qy: i64) -> i64
-    ensures { result ≡ refusal_of kind px py qx qy }
+// What an object is, before its tag.
+fn check_shape(kind: i64, px: i64, py: i64, qx: i64, qy: i64) -> Result<(), Refusal>
+    ensures { refused_by result ≡ refusal_of kind px py qx qy }
 {
     if is_outside(Object::SEGMENT, Object::SIDE, kind) {
-        return refusal::NO_KIND;
+        return Err(Refusal::NoKind);
     }
     if kind == Object::SIDE {
-        return side_refusal(px, py, qx, qy);
+        return check_side(px, py, qx, qy);
     }
-    pair_refusal(px, py, qx, qy)
+    check_pair(px, py, qx, qy)
 }
 
-// The refusal of a tag, 15; 0 for none.
-fn tag_refusal(tag: i64) -> i64
-    ensures { result ≡ tag_refusal tag }
+// A tag is refused by 15.
+fn check_tag(tag: i64) -> Result<(), Refusal>
+    ensures { refused_by result ≡ tag_refusal tag }
 {
     if is_outside(0, Object::LAST_TAG, tag) {
-        return refusal::NO_TAG;
+        return Err(Refusal::NoTag);
     }
-    0
+    Ok(())
 }
 
-// The refusal of an object: 1, then 4 for kind 4, else 2 and then 3; then 15; 0 for none. The brackets hold the type's numbers to the paper's.
-pub fn object_refusal(o: Object) -> i64
-    ensures value { result ≡ object_refusal o }
+// An object is refused by 1, then by 4 for kind 4, else by 2 and then 3; then by 15. The clause `names` holds the type's numbers to the paper's.
+pub fn check_object(o: Object) -> Result<(), Refusal>
+    ensures value { refused_by result ≡ object_refusal o }
     ensures names { (Object.REACH ≡ reach) × (Object.MOST ≡ most) × (Object.LAST_TAG ≡ last_tag) × (Object.WIDTH ≡ width) }
 {
-    let shape = refusal_of(o.kind, o.px, o.py, o.qx, o.qy);
-    let tag = tag_refusal(o.tag);
-    whole::or_else(shape, tag)
+    check_shape(o.kind, o.px, o.py, o.qx, o.qy)?;
+    check_tag(o.tag)
 }

@@ -1,9 +1,10 @@
 // Lists of objects: an object of one, and which lists are refused. And how many numbers a row of a listing has, for those who write rows and those who read them.
 ghost use Rattle.std.specs.Prelude.{◌≡◌, ◌+◌, ◌≤◌, length};
+ghost use Rattle.sheet.specs.Refused.{refused_by};
 ghost use Rattle.sheet.specs.Lists.{width, count_of, number, object_from, object_at, objects_refusal, list_refusal};
 
-use crate::refusal::{LIST_LENGTH, TOO_MANY};
-use crate::{Object, object_refusal};
+use crate::refusal::Refusal;
+use crate::{Object, check_object};
 
 // The numbers of a row that say what a pair shares; and all of a row, which ends with the tags of the two.
 pub const SHARE_WIDTH: usize = 8;
@@ -29,10 +30,7 @@ fn object_from(list: &[i64], at: usize) -> Object
 fn number_at(list: &[i64], at: usize) -> i64
     ensures { result ≡ number list.now at }
 {
-    if at < list.len() {
-        return list[at];
-    }
-    0
+    list.get(at).copied().unwrap_or(0)
 }
 
 // What is left of an object at the end of a list.
@@ -64,33 +62,25 @@ pub fn object_at(list: &[i64], i: usize) -> Object
     object_cut(list, i * Object::WIDTH)
 }
 
-// The first refusal of the objects in turn.
-fn objects_refusal(list: &[i64]) -> i64
-    ensures { result ≡ objects_refusal list.now (count_of list.now) }
+// Each object in turn.
+fn check_objects(list: &[i64]) -> Result<(), Refusal>
+    ensures { refused_by result ≡ objects_refusal list.now (count_of list.now) }
 {
-    let n = list.len() / Object::WIDTH;
-    let mut i = 0;
-    while i < n {
-        let o = object_at(list, i);
-        let no = object_refusal(o);
-        if no != 0 {
-            return no;
-        }
-        i += 1;
+    for i in 0..list.len() / Object::WIDTH {
+        check_object(object_at(list, i))?;
     }
-    0
+    Ok(())
 }
 
-// The refusal of a list of objects: 14, 11, each object in turn; 0 for none.
-pub fn list_refusal(list: &[i64]) -> i64
-    ensures { result ≡ list_refusal list.now }
+// A list of objects is refused by 14, by 11, and then as each object in turn.
+pub fn check_list(list: &[i64]) -> Result<(), Refusal>
+    ensures { refused_by result ≡ list_refusal list.now }
 {
     if list.len() % Object::WIDTH != 0 {
-        return LIST_LENGTH;
+        return Err(Refusal::ListLength);
     }
-    let n = list.len() / Object::WIDTH;
-    if Object::MOST < n {
-        return TOO_MANY;
+    if Object::MOST < list.len() / Object::WIDTH {
+        return Err(Refusal::TooMany);
     }
-    objects_refusal(list)
+    check_objects(list)
 }

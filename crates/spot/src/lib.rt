@@ -1,5 +1,5 @@
 // Calls for a C program that checks the kernel by what its answers mean (tests/spot_check.c): ends, order, side and crossing. And the
-// side of circle, for tests/circle.c and bench/.
+// side of circle, for tests/circle.c and bench/. C takes no enum, so a refusal is a number here, beside the others.
 #![tactic(auto)]
 
 mod numbers;
@@ -30,29 +30,29 @@ pub struct Answer {
 pub fn silvanelga_spot_ends(o: Object) -> TwoEnds
     ensures { result ≡ ends_answer o }
 {
-    numbers::of_ends(kernel::ends::ends_of(o))
+    kernel::ends::ends_of(o).into()
 }
 
 pub fn silvanelga_spot_order(p: Point, q: Point) -> Answer
     ensures { result ≡ order_answer p q }
 {
-    numbers::of_sign(kernel::signs::order_points(p, q))
+    kernel::signs::order_points(p, q).into()
 }
 
 pub fn silvanelga_spot_side(o: Object, s: Point) -> Answer
     ensures { result ≡ side_answer o s }
 {
-    numbers::of_sign(kernel::signs::side_of(o, s))
+    kernel::signs::side_of(o, s).into()
 }
 
 pub fn silvanelga_spot_cross(a: Object, b: Object) -> Answer
     ensures { result ≡ crossing_answer a b }
 {
-    numbers::of_crossing(kernel::crossing::cross(a, b))
+    kernel::crossing::cross(a, b).into()
 }
 
 pub fn silvanelga_spot_circle(p: Point, q: Point, s: Point, u: Point) -> Answer
     ensures { result ≡ circle_answer p q s u }
 {
-    numbers::of_sign(kernel::circle::side_of_circle(p, q, s, u))
+    kernel::circle::side_of_circle(p, q, s, u).into()
 }

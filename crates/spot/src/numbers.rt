@@ -4,7 +4,8 @@ ghost use Rattle.sheet.specs.Answers.{ends_say, signed_says, crossing_says};
 ghost use Rattle.spot.specs.Numbers.{point_from, two_ends_of, answer_of};
 
 use crate::{Answer, TwoEnds};
-use sheet::{Crossing, Ends, Point, Signed};
+use sheet::refusal::Refusal;
+use sheet::{Crossing, Ends, Point};
 
 fn no_point() -> Point
     ensures { result ≡ point_from [] 0 }
@@ -18,20 +19,22 @@ fn no_point() -> Point
     }
 }
 
-pub fn of_ends(ends: Ends) -> TwoEnds
-    ensures { result ≡ two_ends_of (ends_say ends) }
-{
-    match ends {
-        Ends::Both(first, last) => TwoEnds {
-            refusal: 0,
-            first,
-            last,
-        },
-        Ends::Refused(refusal) => TwoEnds {
-            refusal,
-            first: no_point(),
-            last: no_point(),
-        },
+impl From<Result<Ends, Refusal>> for TwoEnds {
+    ghost from_gives = { λ ends answer. answer ≡ two_ends_of (ends_say ends) };
+
+    fn from(ends: Result<Ends, Refusal>) -> TwoEnds {
+        match ends {
+            Ok(Ends { first, last }) => TwoEnds {
+                refusal: 0,
+                first,
+                last,
+            },
+            Err(refusal) => TwoEnds {
+                refusal: refusal.into(),
+                first: no_point(),
+                last: no_point(),
+            },
+        }
     }
 }
 
@@ -45,26 +48,30 @@ fn without_point(refusal: i64, number: i64) -> Answer
     }
 }
 
-pub fn of_sign(signed: Signed) -> Answer
-    ensures { result ≡ answer_of (signed_says signed) }
-{
-    match signed {
-        Signed::Sign(sign) => without_point(0, sign),
-        Signed::Refused(refusal) => without_point(refusal, 0),
+impl From<Result<i64, Refusal>> for Answer {
+    ghost from_gives = { λ signed answer. answer ≡ answer_of (signed_says signed) };
+
+    fn from(signed: Result<i64, Refusal>) -> Answer {
+        match signed {
+            Ok(sign) => without_point(0, sign),
+            Err(no) => without_point(no.into(), 0),
+        }
     }
 }
 
-pub fn of_crossing(crossing: Crossing) -> Answer
-    ensures { result ≡ answer_of (crossing_says crossing) }
-{
-    match crossing {
-        Crossing::Nothing => without_point(0, 0),
-        Crossing::Once(at) => Answer {
-            refusal: 0,
-            number: 1,
-            at,
-        },
-        Crossing::Many => without_point(0, 2),
-        Crossing::Refused(refusal) => without_point(refusal, 0),
+impl From<Result<Crossing, Refusal>> for Answer {
+    ghost from_gives = { λ crossing answer. answer ≡ answer_of (crossing_says crossing) };
+
+    fn from(crossing: Result<Crossing, Refusal>) -> Answer {
+        match crossing {
+            Ok(Crossing::Nothing) => without_point(0, 0),
+            Ok(Crossing::Once(at)) => Answer {
+                refusal: 0,
+                number: 1,
+                at,
+            },
+            Ok(Crossing::Many) => without_point(0, 2),
+            Err(refusal) => without_point(refusal.into(), 0),
+        }
     }
 }

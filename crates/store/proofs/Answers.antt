@@ -9,14 +9,17 @@ use denote.Ref.{Bor}
 use denote.MutBor.{MutBor}
 use denote.Triple.Clauses.{AtExit}
 use Rattle.store.specs.declared.Form.{Form}
-use Rattle.store.specs.declared.Formed.{Formed}
 use Rattle.store.specs.declared.Read.{Read}
-use Rattle.store.specs.declared.Written.{Written}
 use Rattle.store.specs.declared.Bookmark.{Bookmark}
 use Rattle.store.specs.declared.Stepped.{Stepped}
 use Rattle.store.specs.declared.Reader.{Reader}
 use Rattle.store.specs.declared.Taken.{Taken}
+use Rattle.std.specs.Prelude.{Result}
+use Rattle.sheet.specs.declared.refusal.Refusal.{Refusal}
+use Rattle.sheet.specs.declared.refusal.Unfilled.{Unfilled}
+use Rattle.sheet.specs.RefusedLaws.{refused-one}
 use Rattle.store.specs.AnswersLaws.{formed-one}
+use Rattle.store.specs.ToldLaws.{read-told-one, write-told-one, step-told-one, take-told-one}
 use Rattle.store.proofs.check_drawing.Reads as check-drawing
 use Rattle.store.proofs.form_of.Reads as form_of
 use Rattle.store.proofs.read_drawing.Reads as read-drawing
@@ -29,31 +32,31 @@ use Rattle.store.specs.contracts.next as next
 use Rattle.store.proofs.ReaderPosts.{OpenReaderPost, NextPost}
 
 pub check-drawing-answer :
-    (κs : Lfts 1) (bytes : Bor (List ℕ)) (r s : ℤ)
+    (κs : Lfts 1) (bytes : Bor (List ℕ)) (r s : Result Unit Refusal)
     → check-drawing.Post κs (bytes, tt) r (bytes, tt) → check-drawing.Post κs (bytes, tt) s (bytes, tt) → r ≡ s
-check-drawing-answer κs bytes r s p q = p ∙ sym q
+check-drawing-answer κs bytes r s p q = refused-one r s (p ∙ sym q)
 
 pub form-of-answer :
-    (κs : Lfts 1) (bytes : Bor (List ℕ)) (r s : Formed) → form_of.Post κs (bytes, tt) r (bytes, tt) → form_of.Post κs (bytes, tt) s (bytes, tt) → r ≡ s
+    (κs : Lfts 1) (bytes : Bor (List ℕ)) (r s : Result Form Refusal) → form_of.Post κs (bytes, tt) r (bytes, tt) → form_of.Post κs (bytes, tt) s (bytes, tt) → r ≡ s
 form-of-answer κs bytes r s p q = formed-one r s (p ∙ sym q)
 
 pub read-drawing-answer :
-    (κs : Lfts 2) (bytes : Bor (List ℕ)) (out : MutBor (List ℤ)) (r s : Read) (l m : MutBor (List ℤ))
+    (κs : Lfts 2) (bytes : Bor (List ℕ)) (out : MutBor (List ℤ)) (r s : Result Read Unfilled) (l m : MutBor (List ℤ))
     → read-drawing.Post κs (bytes, (out, tt)) r (bytes, (l, tt)) → read-drawing.Post κs (bytes, (out, tt)) s (bytes, (m, tt))
     → (r ≡ s) × (l.now ≡ m.now)
-read-drawing-answer κs bytes out r s l m p q = (p.0 ∙ sym q.0, p.1 ∙ sym q.1)
+read-drawing-answer κs bytes out r s l m p q = (read-told-one r s (p.0 ∙ sym q.0), p.1 ∙ sym q.1)
 
 pub write-drawing-answer :
-    (κs : Lfts 2) (form : Form) (list : Bor (List ℤ)) (out : MutBor (List ℕ)) (r s : Written) (l m : MutBor (List ℕ))
+    (κs : Lfts 2) (form : Form) (list : Bor (List ℤ)) (out : MutBor (List ℕ)) (r s : Result ℕ Unfilled) (l m : MutBor (List ℕ))
     → write-drawing.Post κs (form, (list, (out, tt))) r (form, (list, (l, tt))) → write-drawing.Post κs (form, (list, (out, tt))) s (form, (list, (m, tt)))
     → (r ≡ s) × (l.now ≡ m.now)
-write-drawing-answer κs form list out r s l m p q = (p.0 ∙ sym q.0, p.1 ∙ sym q.1)
+write-drawing-answer κs form list out r s l m p q = (write-told-one r s (p.0 ∙ sym q.0), p.1 ∙ sym q.1)
 
 pub move-drawing-answer :
-    (κs : Lfts 2) (bytes : Bor (List ℕ)) (form : Form) (out : MutBor (List ℕ)) (r s : Written) (l m : MutBor (List ℕ))
+    (κs : Lfts 2) (bytes : Bor (List ℕ)) (form : Form) (out : MutBor (List ℕ)) (r s : Result ℕ Unfilled) (l m : MutBor (List ℕ))
     → move-drawing.Post κs (bytes, (form, (out, tt))) r (bytes, (form, (l, tt))) → move-drawing.Post κs (bytes, (form, (out, tt))) s (bytes, (form, (m, tt)))
     → (r ≡ s) × (l.now ≡ m.now)
-move-drawing-answer κs bytes form out r s l m p q = (p.0 ∙ sym q.0, p.1 ∙ sym q.1)
+move-drawing-answer κs bytes form out r s l m p q = (write-told-one r s (p.0 ∙ sym q.0), p.1 ∙ sym q.1)
 
 pub start-answer : (κs : Lfts 0) (r s : Bookmark) → start.Post κs tt r tt → start.Post κs tt s tt → r ≡ s
 start-answer κs r s p q = p ∙ sym q
@@ -61,7 +64,7 @@ start-answer κs r s p q = p ∙ sym q
 pub step-answer :
     (κs : Lfts 1) (bytes : Bor (List ℕ)) (place : Bookmark) (r s : Stepped)
     → step.Post κs (bytes, (place, tt)) r (bytes, (place, tt)) → step.Post κs (bytes, (place, tt)) s (bytes, (place, tt)) → r ≡ s
-step-answer κs bytes place r s p q = p ∙ sym q
+step-answer κs bytes place r s p q = step-told-one r s (p ∙ sym q)
 
 -- ---- the reader's own calls
 
@@ -72,4 +75,4 @@ open-reader-answer κs bytes r s e f p q = λ i. record { bytes = (p.0 ∙ sym q
 
 pub next-answer :
     (κs : Lfts 1) (reader : Reader) (r s : Taken) (e f : AtExit next.ended κs) → NextPost κs reader r e → NextPost κs reader s f → r ≡ s
-next-answer κs reader r s e f p q = p ∙ sym q
+next-answer κs reader r s e f p q = take-told-one r s (p ∙ sym q)

@@ -25,7 +25,8 @@ use Rattle.number.proofs.SameLaws as same
 use Rattle.store.specs.declared.Form.{Form}
 use Rattle.store.specs.declared.Form.TheVariants.{Old, New}
 use Rattle.store.specs.Forms.{mark, write_mark, untagged, write_tag, read_tag, nought, origin_of, mark_most, head_most, tag_most, object_most, longest_of, longest}
-use Rattle.store.specs.Stored.{Drawing, Head, head_of, head_in, and_then, counted, before, form_in, write_drawing, write_refusal, read_coordinate, side_object, read_side, read_point, read_to, read_pair, read_shape, read_tagged, read_object, read_objects, read_form, read_count, read_head, read_drawing, form_of, write_shape, write_object, write_objects}
+use Rattle.store.specs.Stored.{Drawing, head_of, head_in, and_then, counted, before, form_in, write_drawing, write_refusal, read_coordinate, side_object, read_side, read_point, read_to, read_pair, read_shape, read_tagged, read_object, read_objects, read_form, read_count, read_head, read_drawing, form_of, write_shape, write_object, write_objects}
+use Rattle.store.specs.declared.reading.Head.{Head}
 use Rattle.store.proofs.SureLaws.{Sure, kept_old, kept_new, Fits, not-nought, sure-point, sure-object, sure-head}
 use Rattle.store.proofs.TagsLaws.{kept-taken, taken-kept}
 use Rattle.store.proofs.SureLaws as sure

@@ -24,7 +24,8 @@ use Rattle.number.specs.Number.{Reading, got, no, next, Bytes, checked, read_num
 use Rattle.store.specs.declared.Form.{Form}
 use Rattle.store.specs.declared.Form.TheVariants.{Old, New}
 use Rattle.store.specs.Forms.{mark, longest}
-use Rattle.store.specs.Stored.{Drawing, Head, head_of, head_in, refused, counted, form_in, Untagged, tags_refusal, write_drawing, write_refusal, read_form, read_count, read_head, read_drawing, old_reader, form_of, move_refusal, moved}
+use Rattle.store.specs.Stored.{Drawing, head_of, head_in, refused, counted, form_in, Untagged, tags_refusal, write_drawing, write_refusal, read_form, read_count, read_head, read_drawing, old_reader, form_of, move_refusal, moved}
+use Rattle.store.specs.declared.reading.Head.{Head}
 use Rattle.store.proofs.TagsLaws.{kept-tags, tags-kept, untagged-kept, kept-untagged, new-keeps, tags-refused}
 use Rattle.store.proofs.StoredLaws.{read-written, form-written, read-list, read_taken, written_read}
 use Rattle.store.proofs.SureLaws.{Sure, not-nought, sure-count}

@@ -13,17 +13,17 @@ use Rattle.sheet.specs.Refusal.{Accepted}
 use Rattle.sheet.specs.Lists.{width}
 use Rattle.sheet.specs.ListsLaws.{object-next}
 use Rattle.store.specs.declared.Bookmark.{Bookmark}
-use Rattle.store.specs.declared.Item.{Item}
-use Rattle.store.specs.declared.Item.TheVariants.{One, End, Refused}
-use Rattle.store.specs.declared.Stepped.{Stepped}
+use Rattle.store.specs.declared.Bookmark.TheVariants.{Start, In}
+use Rattle.store.specs.Reader.{Item, One, End, Refused, Step}
 use Rattle.number.specs.Number.{Reading, got, no}
 use Rattle.store.specs.declared.Form.{Form}
-use Rattle.store.specs.Stored.{Drawing, Head, refused, before, and_then, counted, read_object, read_objects, read_head, read_drawing}
+use Rattle.store.specs.Stored.{Drawing, refused, before, and_then, counted, read_object, read_objects, read_head, read_drawing}
+use Rattle.store.specs.declared.reading.Head.{Head}
 use Rattle.store.specs.Reader.{start_place, rest_begins, step_to, step_object, step_from, step_head, step_of, call_from, end_of, item_of, item_says}
 use Rattle.store.proofs.SureLaws.{Sure, not-nought, sure-object, sure-head}
 use Rattle.store.proofs.SureLaws as sure
 use Rattle.store.proofs.ObjectsLaws.{objects-end, objects-over}
-use Rattle.store.specs.StepLaws.{first_call}
+use Rattle.store.specs.StepLaws.{first_call, step-in}
 
 -- ---- the items of a drawing
 
@@ -58,17 +58,12 @@ item-next o d k =
 -- a call that keeps the place says the same for ever
 stays : (bs : List ℕ) (p : Bookmark) (i : Item) → step_of bs p ≡ step_to i p → (k : ℕ) → call_from bs p k ≡ i
 unfolding call_from
-stays bs p i e zero = ap (λ (s : Stepped). s.item) e
-stays bs p i e (suc k) = ap (λ (s : Stepped). call_from bs s.place k) e ∙ stays bs p i e k
+stays bs p i e zero = ap (λ (s : Step). s.item) e
+stays bs p i e (suc k) = ap (λ (s : Step). call_from bs s.place k) e ∙ stays bs p i e k
 
 call_next : (bs : List ℕ) (p : Bookmark) (k : ℕ) → call_from bs p (suc k) ≡ call_from bs (step_of bs p).place k
 unfolding call_from
 call_next bs p k = refl
-
-step-begun : (bs : List ℕ) (f : Form) (left at : ℕ) → let p : Bookmark = record { begun = true; form = f; left = left; at = at } in step_of bs p
-    ≡ step_from bs p f left at
-unfolding step_of
-step-begun bs f left at = refl
 
 -- where the rest begins
 rest_at : (bs front rest : List ℕ) (at : ℕ) → at ≤ length bs → drop at bs ≡ front ++ rest
@@ -105,13 +100,13 @@ runs f (suc left) bs at p h e k = go (sure-object f (drop at bs)) (runs f left b
         → step_of bs p ≡ step_object bs p f left r → (k : ℕ) → call_from bs p k ≡ item_of (and_then r (λ rest. read_objects f left rest)) k
     go (sure.refused n z) more e k = stays bs p (Refused (pos n)) e k ∙ sym (item-none (pos n) k ∙ simp (not-nought n z))
     go (sure.read o front rest g a) more e zero =
-        sym (first_call bs p) ∙ ap (λ (s : Stepped). s.item) e ∙ sym (item-first o (read_objects f left rest))
+        sym (first_call bs p) ∙ ap (λ (s : Step). s.item) e ∙ sym (item-first o (read_objects f left rest))
     go (sure.read o front rest g a) more e (suc k) =
         let there = rest_at bs front rest at h g in
-        let on : Bookmark = record { begun = true; form = f; left = left; at = rest_begins bs rest } in
+        let on : Bookmark = In f left (rest_begins bs rest) in
         call_next bs p k
-        ∙ ap (λ (s : Stepped). call_from bs s.place k) e
-        ∙ more (rest_begins bs rest) on there.0 (step-begun bs f left (rest_begins bs rest)) k
+        ∙ ap (λ (s : Step). call_from bs s.place k) e
+        ∙ more (rest_begins bs rest) on there.0 (step-in bs refl) k
         ∙ ap (λ (l : List ℕ). item_of (read_objects f left l) k) there.1
         ∙ sym (item-next o (read_objects f left rest) k)
 
@@ -148,12 +143,8 @@ kept-head bs p (no n) h = refl
 
 pub keeps : (bs : List ℕ) (p : Bookmark) → ((o : Object) → (step_of bs p).item ≡ One o → ⊥) → (step_of bs p).place ≡ p
 unfolding step_of
-keeps bs p h = go p.begun h
-  where
-    go : (t : Bool) → ((o : Object) → (cond t (step_from bs p p.form p.left p.at) (step_head bs p (read_head bs))).item ≡ One o → ⊥)
-        → (cond t (step_from bs p p.form p.left p.at) (step_head bs p (read_head bs))).place ≡ p
-    go true h = kept_from bs p p.form p.left p.at h
-    go false h = kept-head bs p (read_head bs) h
+keeps bs Start h = kept-head bs Start (read_head bs) h
+keeps bs (In f left at) h = kept_from bs (In f left at) f left at h
 
 -- ---- no two items say the same
 

@@ -22,18 +22,19 @@ use contract.Lifetimes.{Lfts}
 use denote.Ref.{Bor}
 use denote.MutBor.{MutBor}
 use Rattle.whole.specs.ChoiceLaws.{or-next}
+use Rattle.std.specs.Prelude.{Result, Ok}
+use Rattle.sheet.specs.declared.refusal.Refusal.{Refusal}
+use Rattle.sheet.specs.declared.refusal.Unfilled.{Unfilled}
 use Rattle.sheet.specs.Lent.{room_refusal, other_number, filled}
 use Rattle.sheet.specs.LentLaws.{filled-front}
 use Rattle.sheet.specs.Lists.{count_of, list_refusal}
 use Rattle.number.specs.Number.{Bytes}
 use Rattle.store.specs.declared.Form.{Form}
 use Rattle.store.specs.declared.Form.TheVariants.{Old, New}
-use Rattle.store.specs.declared.Formed.{Formed}
-use Rattle.store.specs.declared.Formed.TheVariants.{Has}
 use Rattle.store.specs.declared.Read.{Read}
-use Rattle.store.specs.declared.Written.{Written}
 use Rattle.store.specs.Stored.{Drawing, read_drawing, form_of, write_drawing, tags_refusal, write_refusal, Untagged}
-use Rattle.store.specs.Answers.{bytes_answer, read_answer, read_into, write_answer, write_into}
+use Rattle.store.specs.Told.{read_told, write_told}
+use Rattle.store.specs.Answers.{ReadSays, WriteSays, bytes_answer, read_answer, read_into, write_answer, write_into}
 use Rattle.store.specs.AnswersLaws.{has-form, tells-form}
 use Rattle.store.proofs.TagsLaws.{Keeps, kept-taken, taken-kept, untagged-kept, kept-untagged, new-keeps, tags-refused}
 use Rattle.store.proofs.StoredLaws.{read_taken, written_read, read-written, form-written}
@@ -50,8 +51,7 @@ pub record WasRead (bytes : Bor (List ℕ)) (list : List ℤ) : Type 0 where
   pub lent : MutBor (List ℤ)
   pub after : MutBor (List ℤ)
   pub answer : Read
-  pub met : read-drawing.Post κs (bytes, (lent, tt)) answer (bytes, (after, tt))
-  pub not_refused : answer.refusal ≡ pos 0
+  pub met : read-drawing.Post κs (bytes, (lent, tt)) (Ok answer) (bytes, (after, tt))
   pub front : list ≡ take answer.length after.now
 
 -- write_drawing took the list in a form, and bytes are what it put at the front of the lent ones
@@ -59,14 +59,13 @@ pub record WasWritten (form : Form) (list : Bor (List ℤ)) (bytes : List ℕ) :
   pub κs : Lfts 2
   pub lent : MutBor (List ℕ)
   pub after : MutBor (List ℕ)
-  pub answer : Written
-  pub met : write-drawing.Post κs (form, (list, (lent, tt))) answer (form, (list, (after, tt)))
-  pub not_refused : answer.refusal ≡ pos 0
-  pub front : bytes ≡ take answer.length after.now
+  pub size : ℕ
+  pub met : write-drawing.Post κs (form, (list, (lent, tt))) (Ok size) (form, (list, (after, tt)))
+  pub front : bytes ≡ take size after.now
 
 -- a call that puts bytes into lent ones is refused for nothing but room
-pub record Puts (bytes : List ℕ) (lent : MutBor (List ℕ)) (answer : Written) (after : MutBor (List ℕ)) : Type 0 where
-  pub answered : answer ≡ record { refusal = room_refusal (pos 0) (length bytes) (length lent.now); length = length bytes }
+pub record Puts (bytes : List ℕ) (lent : MutBor (List ℕ)) (answer : Result ℕ Unfilled) (after : MutBor (List ℕ)) : Type 0 where
+  pub answered : write_told answer ≡ record { refusal = room_refusal (pos 0) (length bytes) (length lent.now); length = length bytes }
   pub left : after.now ≡ filled (pos 0) bytes lent.now
 
 -- ---- by the definitions
@@ -76,31 +75,32 @@ was_read : {bytes : Bor (List ℕ)} {list : List ℤ} → WasRead bytes list
 unfolding read_answer read_into
 was_read {bytes} {list} c =
     let d = read_drawing bytes.now in
-    let done = filled-front d.refusal d.objects c.lent.now (sym (ap (λ (r : Read). r.refusal) c.met.0) ∙ c.not_refused) in
+    let done = filled-front d.refusal d.objects c.lent.now (sym (ap (λ (r : ReadSays). r.refusal) c.met.0)) in
     (done.0, c.front ∙ (λ i. take (c.met.0 i).length (c.met.1 i)) ∙ done.1)
 
 -- bytes were put into lent ones, as they are where the refusal before 10 is 0
 pub were-put :
-    (n : ℤ) (put lent : List ℕ) {bytes after : List ℕ} {answer : Written} → answer ≡ bytes_answer n put lent → after ≡ filled n put lent
-    → answer.refusal ≡ pos 0 → bytes ≡ take answer.length after → (n ≡ pos 0) × (bytes ≡ put)
-were-put n put lent p q z front =
-    let done = filled-front n put lent (sym (ap (λ (r : Written). r.refusal) p) ∙ z) in
+    (n : ℤ) (put lent : List ℕ) {bytes after : List ℕ} {size : ℕ} → write_told (Ok size) ≡ bytes_answer n put lent → after ≡ filled n put lent
+    → bytes ≡ take size after → (n ≡ pos 0) × (bytes ≡ put)
+were-put n put lent p q front =
+    let done = filled-front n put lent (sym (ap (λ (r : WriteSays). r.refusal) p)) in
     (done.0, front ∙ (λ i. take (p i).length (q i)) ∙ done.1)
 
 was-written : {form : Form} {list : Bor (List ℤ)} {bytes : List ℕ} → WasWritten form list bytes
     → (write_refusal form list.now ≡ pos 0) × (bytes ≡ write_drawing form list.now)
 unfolding write_answer write_into
-was-written {form} {list} c = were-put (write_refusal form list.now) (write_drawing form list.now) c.lent.now c.met.0 c.met.1 c.not_refused c.front
+was-written {form} {list} c = were-put (write_refusal form list.now) (write_drawing form list.now) c.lent.now c.met.0 c.met.1 c.front
 
 pub puts :
-    {n : ℤ} {put bytes : List ℕ} {lent after : MutBor (List ℕ)} {answer : Written} → n ≡ pos 0 → put ≡ bytes → answer ≡ bytes_answer n put lent.now
+    {n : ℤ} {put bytes : List ℕ} {lent after : MutBor (List ℕ)} {answer : Result ℕ Unfilled} → n ≡ pos 0 → put ≡ bytes → write_told answer ≡ bytes_answer n put lent.now
     → after.now ≡ filled n put lent.now → Puts bytes lent answer after
 puts {n} {put} {bytes} {lent} z e p q =
     record { answered = p ∙ (λ i. bytes_answer (z i) (e i) lent.now); left = q ∙ (λ i. filled (z i) (e i) lent.now) }
 
 -- 0 or 10 is not 16
-pub puts-not-16 : {bytes : List ℕ} {lent after : MutBor (List ℕ)} {answer : Written} → Puts bytes lent answer after → answer.refusal ≡ pos 16 → ⊥
-puts-not-16 {bytes} {lent} p e = room (ltb (length lent.now) (length bytes)) (sym (ap (λ (r : Written). r.refusal) p.answered) ∙ e)
+pub puts-not-16 : {bytes : List ℕ} {lent after : MutBor (List ℕ)} {answer : Result ℕ Unfilled} → Puts bytes lent answer after
+    → (write_told answer).refusal ≡ pos 16 → ⊥
+puts-not-16 {bytes} {lent} p e = room (ltb (length lent.now) (length bytes)) (sym (ap (λ (r : WriteSays). r.refusal) p.answered) ∙ e)
   where
     room : (short : Bool) → cond short (pos 10) (pos 0) ≡ pos 16 → ⊥
     room true e = let z : ◌≡◌ {A = ℕ} 10 16 = cc in omega arith
@@ -109,9 +109,9 @@ puts-not-16 {bytes} {lent} p e = room (ltb (length lent.now) (length bytes)) (sy
 -- ---- there and back
 
 pub bytes-come-back :
-    (κ : Lfts 1) (bytes : Bor (List ℕ)) (form : Form) (list : Bor (List ℤ)) → Bytes bytes.now → FormOf.Post κ (bytes, tt) (Has form) (bytes, tt)
+    (κ : Lfts 1) (bytes : Bor (List ℕ)) (form : Form) (list : Bor (List ℤ)) → Bytes bytes.now → FormOf.Post κ (bytes, tt) (Ok form) (bytes, tt)
     → WasRead bytes list.now
-    → (κs : Lfts 2) (lent after : MutBor (List ℕ)) (answer : Written)
+    → (κs : Lfts 2) (lent after : MutBor (List ℕ)) (answer : Result ℕ Unfilled)
     → write-drawing.Post κs (form, (list, (lent, tt))) answer (form, (list, (after, tt))) → Puts bytes.now lent answer after
 unfolding write_answer write_into
 bytes-come-back κ bytes form list b told c κs lent after answer met =
@@ -122,9 +122,9 @@ bytes-come-back κ bytes form list b told c κs lent after answer met =
 
 pub objects-come-back :
     (form : Form) (list : Bor (List ℤ)) (bytes : Bor (List ℕ)) → WasWritten form list bytes.now
-    → (κs : Lfts 2) (lent after : MutBor (List ℤ)) (answer : Read) → read-drawing.Post κs (bytes, (lent, tt)) answer (bytes, (after, tt))
+    → (κs : Lfts 2) (lent after : MutBor (List ℤ)) (answer : Result Read Unfilled) → read-drawing.Post κs (bytes, (lent, tt)) answer (bytes, (after, tt))
     → let refusal = room_refusal (pos 0) (length list.now) (length lent.now) in
-    (answer ≡ record { refusal = refusal; count = other_number refusal (count_of list.now); length = length list.now })
+    (read_told answer ≡ record { refusal = refusal; count = other_number refusal (count_of list.now); length = length list.now })
     × (after.now ≡ filled (pos 0) list.now lent.now)
 unfolding read_answer read_into
 objects-come-back form list bytes c κs lent after answer met =
@@ -136,7 +136,7 @@ objects-come-back form list bytes c κs lent after answer met =
 
 pub form-told :
     (form : Form) (list : Bor (List ℤ)) (bytes : Bor (List ℕ)) → WasWritten form list bytes.now
-    → (κ : Lfts 1) (answer : Formed) → FormOf.Post κ (bytes, tt) answer (bytes, tt) → answer ≡ Has form
+    → (κ : Lfts 1) (answer : Result Form Refusal) → FormOf.Post κ (bytes, tt) answer (bytes, tt) → answer ≡ Ok form
 form-told form list bytes c κ answer met =
     let was = was-written c in
     tells-form bytes.now (ap (λ (d : Drawing). d.refusal) (ap read_drawing was.1 ∙ read-written form list.now was.0))
@@ -150,7 +150,7 @@ two-forms list other bytes c d =
 
 -- ---- what can be written
 
-module _ (list : Bor (List ℤ)) (fine : list_refusal list.now ≡ pos 0) (κs : Lfts 2) (lent after : MutBor (List ℕ)) (answer : Written) where
+module _ (list : Bor (List ℤ)) (fine : list_refusal list.now ≡ pos 0) (κs : Lfts 2) (lent after : MutBor (List ℕ)) (answer : Result ℕ Unfilled) where
   kept-written :
       (form : Form) → Keeps form list.now → write-drawing.Post κs (form, (list, (lent, tt))) answer (form, (list, (after, tt)))
       → Puts (write_drawing form list.now) lent answer after
@@ -166,15 +166,15 @@ module _ (list : Bor (List ℤ)) (fine : list_refusal list.now ≡ pos 0) (κs :
   new-written = kept-written New (new-keeps list.now)
 
   pub untagged-exactly :
-      write-drawing.Post κs (Old, (list, (lent, tt))) answer (Old, (list, (after, tt))) → (answer.refusal ≡ pos 16 → ⊥) ↔ Untagged list.now
+      write-drawing.Post κs (Old, (list, (lent, tt))) answer (Old, (list, (after, tt))) → ((write_told answer).refusal ≡ pos 16 → ⊥) ↔ Untagged list.now
   unfolding write_answer write_refusal
   untagged-exactly met = (λ d. there d (tags-refused list.now Old), λ a. puts-not-16 (untagged-written a met))
     where
-      given : tags_refusal Old list.now ≡ pos 16 → answer.refusal ≡ pos 16
+      given : tags_refusal Old list.now ≡ pos 16 → (write_told answer).refusal ≡ pos 16
       given h =
-          ap (λ (r : Written). r.refusal) met.0
+          ap (λ (r : WriteSays). r.refusal) met.0
           ∙ ap (λ (n : ℤ). room_refusal n (length (write_drawing Old list.now)) (length lent.now)) (or-next _ fine ∙ h)
 
-      there : (answer.refusal ≡ pos 16 → ⊥) → (tags_refusal Old list.now ≡ pos 0) ⊎ (tags_refusal Old list.now ≡ pos 16) → Untagged list.now
+      there : ((write_told answer).refusal ≡ pos 16 → ⊥) → (tags_refusal Old list.now ≡ pos 0) ⊎ (tags_refusal Old list.now ≡ pos 16) → Untagged list.now
       there d (inl h) = kept-untagged list.now (taken-kept list.now Old (or-next _ fine ∙ h)).1
       there d (inr h) = absurd (d (given h))

@@ -21,9 +21,9 @@ use Rattle.sheet.specs.Lists.{width, object_at}
 use Rattle.sheet.specs.Listable.{Listable}
 use Rattle.sheet.specs.ListsLaws.{listable, object-next}
 use Rattle.store.specs.declared.Form.{Form}
-use Rattle.store.specs.declared.Item.{Item}
-use Rattle.store.specs.declared.Item.TheVariants.{One, End, Refused}
-use Rattle.store.specs.Stored.{Drawing, Head, before, and_then, counted}
+use Rattle.store.specs.Reader.{Item, One, End, Refused}
+use Rattle.store.specs.Stored.{Drawing, before, and_then, counted}
+use Rattle.store.specs.declared.reading.Head.{Head}
 use Rattle.number.specs.Number.{Reading}
 use Rattle.store.specs.Stored.{read_objects, read_drawing}
 use Rattle.store.specs.Reader.{item_of}

@@ -22,7 +22,8 @@ use Rattle.number.proofs.TripLaws.{behind-bytes, From, from, not, from-checked, 
 use Rattle.store.specs.declared.Form.{Form}
 use Rattle.store.specs.declared.Form.TheVariants.{Old, New}
 use Rattle.store.specs.Forms.{mark, write_mark}
-use Rattle.store.specs.Stored.{Drawing, Head, head_of, head_in, before, and_then, counted, form_in, write_object, write_objects, write_drawing, write_refusal, read_object, read_objects, read_form, read_count, read_head, read_drawing, form_of}
+use Rattle.store.specs.Stored.{Drawing, head_of, head_in, before, and_then, counted, form_in, write_object, write_objects, write_drawing, write_refusal, read_object, read_objects, read_form, read_count, read_head, read_drawing, form_of}
+use Rattle.store.specs.declared.reading.Head.{Head}
 use Rattle.store.proofs.SureLaws.{Sure, not-nought, Fits, sure-fits, sure-head}
 use Rattle.store.proofs.SureLaws as sure
 use Rattle.store.proofs.TagsLaws.{Keeps, kept-taken, taken-kept}

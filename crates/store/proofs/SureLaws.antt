@@ -2,11 +2,12 @@
 --   Sure, Any       such a reading; P that holds of all
 --   Kept, Fits      a tag that a form keeps; an accepted object with such a tag
 --   not-nought      such a refusal is not 0
+--   rest-within     the rest behind what was read is no longer than the bytes
 --   sure-number, sure-coordinate, sure-point, sure-fits, sure-object, sure-count, sure-head   each reading is so
 -- Assumes nothing.
-use Rattle.std.specs.Prelude.{◌≡◌, Bool, true, false, cond, List, [], ◌++◌, ℕ, zero, suc, ◌≤◌, ltb, eqb, ℤ, pos, ◌+ℤ◌}
+use Rattle.std.specs.Prelude.{◌≡◌, Bool, true, false, cond, List, [], ◌++◌, ℕ, zero, suc, ◌≤◌, ltb, eqb, ℤ, pos, ◌+ℤ◌, length}
 use Rattle.std.proofs.Math.Path.{refl}
-use Rattle.std.proofs.Common.{sym, ap, ◌∙◌, true≢false, append_assoc, arith, ltb-false, ne_eqb}
+use Rattle.std.proofs.Common.{sym, ap, ◌∙◌, true≢false, append_assoc, arith, length-append, ltb-false, ne_eqb}
 use Rattle.whole.specs.Flag.{eq_z}
 use Rattle.sheet.specs.declared.Object.{Object}
 use Rattle.sheet.specs.Figure.{vec, Vec}
@@ -28,6 +29,13 @@ pub data Sure {A : Type 0} (P : A → Type 0) (bs : List ℕ) : Reading A → Ty
 pub not-nought : (n : ℕ) → among n of_bytes ≡ true → eq_z (pos n) (pos 0) ≡ false
 not-nought zero e = absurd (true≢false (sym e))
 not-nought (suc n) e = ne_eqb (suc n) 0 (λ z. omega arith)
+
+same-rest : {A : Type 0} {a b : A} {rest rest' : List ℕ} → got a rest ≡ got b rest' → length rest ≡ length rest'
+same-rest {A} {a} {b} {rest} {rest'} e = let f : rest ≡ rest' = cc in ap length f
+
+pub rest-within : {A : Type 0} {P : A → Type 0} {bs rest : List ℕ} {a : A} {r : Reading A} → Sure P bs r → got a rest ≡ r → length rest ≤ length bs
+rest-within (read b front rest' e p) t = omega (arith, ap length e, length-append front rest', same-rest t)
+rest-within (refused n z) t = cc
 
 sure_next :
     {A B : Type 0} {P : A → Type 0} {Q : B → Type 0} {bs : List ℕ} {r : Reading A} {f : A → List ℕ → Reading B} → Sure P bs r

@@ -11,6 +11,7 @@ pub mod WorkedForms
 pub mod WorkedReader
 -- what the code's inner functions say
 pub mod Bounded
+pub mod Told
 -- laws: what is read, and what is written
 pub mod ListLaws
 pub mod FormsLaws
@@ -20,4 +21,5 @@ pub mod AnswersLaws
 pub mod PointsLaws
 pub mod Trip
 -- laws: the reader
+pub mod ToldLaws
 pub mod StepLaws

@@ -1,27 +1,29 @@
 -- One call of the reader, by what the code is told. To cite:
+--   rest-is                  the rest of a slice from its middle
 --   step-over, step_end      after the last object
 --   step-refused, step-one   an object's refusal, and an object
 --   first_call               the first of several calls
+--   step-in                    a call of a reader that is in the objects
 --   head-refused, head-taken   the first call, by the form and the count
 -- Assumes nothing.
-use Rattle.std.specs.Prelude.{◌≡◌, Bool, true, false, List, leb, ℤ, length, drop}
+use Rattle.std.specs.Prelude.{◌≡◌, Bool, true, false, List, leb, ℤ, length, take, drop}
 use Rattle.std.proofs.Math.Path.{refl, ap}
-use Rattle.std.proofs.Common.{sym, ◌∙◌, lt-ltb, le-ltb, leb-true, leb-false, drop_of_length-le, of_z}
-use Prim.Native.Nat.{ℕ, zero, suc, min, ◌+◌, ◌-◌, ◌^◌, ◌<◌, ◌≤◌}
+use Rattle.std.proofs.Common.{sym, ◌∙◌, lt-ltb, le-ltb, leb-true, leb-false, drop_of_length-le, length-drop, take_all}
+use Prim.Native.Nat.{ℕ, zero, suc, min, ◌-◌, ◌<◌, ◌≤◌}
 use native.Mathlib.Omega.{arith}
 use Rattle.std.proofs.Math.IntN.{pos}
-use Rattle.std.specs.Int.Signed.{mag}
-use Rattle.std.proofs.Math.ListN.{length-drop}
-use Rattle.std.specs.Int.{w64}
-use Rattle.whole.specs.Tests.{eq-left}
-use Rattle.sheet.specs.AnswersLaws.{not_refused}
 use Rattle.sheet.specs.declared.Object.{Object}
 use Rattle.store.specs.declared.Bookmark.{Bookmark}
-use Rattle.store.specs.declared.Item.TheVariants.{One, End, Refused}
+use Rattle.store.specs.declared.Bookmark.TheVariants.{Start, In}
+use Rattle.store.specs.Reader.{One, End, Refused}
 use Rattle.store.specs.declared.Form.{Form}
-use Rattle.store.specs.Stored.{Head, read_object, read_head}
+use Rattle.store.specs.Stored.{read_object, read_head}
+use Rattle.store.specs.declared.reading.Head.{Head}
 use Rattle.store.specs.Reader.{rest_begins, step_to, step_object, step_from, step_head, step_of, call_from}
-use Rattle.number.specs.ReadAs.{ReadAs}
+use Rattle.number.specs.Number.{Reading, got, no}
+
+pub rest-is : (at : ℕ) (bs : List ℕ) → take (length bs - at) (drop at bs) ≡ drop at bs
+rest-is at bs = take_all (length bs - at) (drop at bs) (omega (arith, length-drop at bs))
 
 -- the rest from a place, or from the end where the place is past it
 drop_min : (at : ℕ) (bs : List ℕ) → drop (min at (length bs)) bs ≡ drop at bs
@@ -50,39 +52,38 @@ module _ (bs : List ℕ) (p : Bookmark) (f : Form) (left at : ℕ) where
       go zero h = absurd (omega arith)
       go (suc k) h = let e : k ≡ suc k - 1 = omega arith in ap (λ (j : ℕ). step_object bs p f j (read_object f (drop at bs))) e
 
-  module _ {s : ℕ} {n : ℤ} {o : Object} {size : ℕ} (h : 0 < left) (e : s ≡ min at (length bs))
-      (t : ReadAs (drop s bs) (read_object f (drop s bs)) n o size) (ok : mag n < 2 ^ 63) where
-    here : drop at bs ≡ drop s bs
-    here = sym (drop_min at bs) ∙ ap (λ (k : ℕ). drop k bs) (sym e)
+  -- s is the place, or the end where the place is past it
+  module _ {s : ℕ} (h : 0 < left) (e : s ≡ min at (length bs)) where
+    here : {r : Reading Object} → r ≡ read_object f (drop s bs) → step_from bs p f left at ≡ step_object bs p f (left - 1) r
+    here t =
+        let there : drop at bs ≡ drop s bs = sym (drop_min at bs) ∙ ap (λ (k : ℕ). drop k bs) (sym e) in
+        step-suc h ∙ ap (λ (l : List ℕ). step_object bs p f (left - 1) (read_object f l)) there ∙ ap (step_object bs p f (left - 1)) (sym t)
 
-    pub step-refused : (of_z w64 n ≡ 0 → ⊥) → step_from bs p f left at ≡ step_to (Refused n) p
-    step-refused d =
-        step-suc h
-        ∙ ap (λ (l : List ℕ). step_object bs p f (left - 1) (read_object f l)) here
-        ∙ ap (step_object bs p f (left - 1)) (t.refused (eq-left {x = n} {y = pos 0} d))
+    pub step-refused : {n : ℤ} → no n ≡ read_object f (drop s bs) → step_from bs p f left at ≡ step_to (Refused n) p
+    step-refused t = here t
 
-    pub step-one : of_z w64 n ≡ 0 → step_from bs p f left at ≡ step_to (One o) (record { begun = true; form = f; left = left - 1; at = s + size })
-    step-one z =
-        let place : rest_begins bs (drop size (drop s bs)) ≡ s + size =
-        omega (arith, length-drop size (drop s bs), length-drop s bs, t.within, e) in
-        step-suc h
-        ∙ ap (λ (l : List ℕ). step_object bs p f (left - 1) (read_object f l)) here
-        ∙ ap (step_object bs p f (left - 1)) (t.taken (not_refused ok refl z))
-        ∙ ap (λ (k : ℕ). step_to (One o) (record { begun = true; form = f; left = left - 1; at = k })) place
+    pub step-one :
+        {o : Object} {rest : List ℕ} → got o rest ≡ read_object f (drop s bs)
+        → step_from bs p f left at ≡ step_to (One o) (In f (left - 1) (rest_begins bs rest))
+    step-one t = here t
 
 -- the first of several calls
 pub first_call : (bs : List ℕ) (p : Bookmark) → (step_of bs p).item ≡ call_from bs p 0
 unfolding call_from
 first_call bs p = refl
 
-module _ (bs : List ℕ) (p : Bookmark) {n : ℤ} {h : Head} {size : ℕ} (t : ReadAs bs (read_head bs) n h size) (ok : mag n < 2 ^ 63) where
-  pub head-refused : p.begun ≡ false → (of_z w64 n ≡ 0 → ⊥) → step_of bs p ≡ step_to (Refused n) p
-  unfolding step_of
-  head-refused b d = simp b (ap (step_head bs p) (t.refused (eq-left {x = n} {y = pos 0} d)))
+pub step-in : (bs : List ℕ) {p : Bookmark} {f : Form} {left at : ℕ} → p ≡ In f left at → step_of bs p ≡ step_from bs (In f left at) f left at
+unfolding step_of
+step-in bs b = ap (step_of bs) b
 
-  pub head-taken : p.begun ≡ false → of_z w64 n ≡ 0 → step_of bs p ≡ step_from bs p h.form h.count size
+module _ (bs : List ℕ) {p : Bookmark} (b : p ≡ Start) where
+  pub head-refused : {n : ℤ} → no n ≡ read_head bs → step_of bs p ≡ step_to (Refused n) p
   unfolding step_of
-  head-taken b z =
-      let place : rest_begins bs (drop size bs) ≡ size = omega (arith, length-drop size bs, t.within) in
-      simp b
-      (ap (step_head bs p) (t.taken (not_refused ok refl z)) ∙ ap (step_from bs p h.form h.count) place)
+  head-refused {n} t = ap (step_of bs) b ∙ ap (step_head bs Start) (sym t) ∙ sym (ap (step_to (Refused n)) b)
+
+  pub head-taken : {h : Head} {rest : List ℕ} → got h rest ≡ read_head bs → step_of bs p ≡ step_from bs p h.form h.count (rest_begins bs rest)
+  unfolding step_of
+  head-taken {h} {rest} t =
+      ap (step_of bs) b
+      ∙ ap (step_head bs Start) (sym t)
+      ∙ sym (ap (λ (q : Bookmark). step_from bs q h.form h.count (rest_begins bs rest)) b)

@@ -14,6 +14,7 @@ use Rattle.sheet.specs.Lists.{count_of, object_at, list_refusal}
 use Rattle.number.specs.Number.{write_number, zigzag, Reading, got, no, next, checked, read_number, unzigzag}
 use Rattle.store.specs.declared.Form.{Form}
 use Rattle.store.specs.declared.Form.TheVariants.{Old, New}
+use Rattle.store.specs.declared.reading.Head.{Head}
 use Rattle.store.specs.Forms.{mark, write_mark, untagged, write_tag, read_tag, origin_of, nought}
 
 -- ---- writing
@@ -139,10 +140,6 @@ unfoldable pub read_count : List ℕ → Reading ℕ
 read_count bs = next (read_number bs) (λ n rest. checked (ltb most n) (pos 11) n rest)
 
 -- what stands before the objects
-pub record Head : Type 0 where
-  pub form : Form
-  pub count : ℕ
-
 abbrev pub head_of : Form → ℕ → Head
 head_of f n = record { form = f; count = n }
 

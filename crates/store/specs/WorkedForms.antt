@@ -1,7 +1,8 @@
 -- The new form, moves and the form of a drawing, worked out byte by byte by document 02's words, with the refusal first met where two or more
 -- would do. A definition that says something else is refused here, whatever the code does.
-use Rattle.std.specs.Prelude.{◌≡◌, refl, List, [], ◌∷◌, ◌++◌, ℕ, ℤ, pos, replicate}
+use Rattle.std.specs.Prelude.{◌≡◌, refl, List, [], ◌∷◌, ◌++◌, ℕ, ℤ, pos, replicate, Ok, Err}
 use Rattle.whole.specs.InTurn.{in_turn}
+use Rattle.sheet.specs.declared.refusal.Refusal.TheVariants.{BytesAfter}
 use Rattle.sheet.specs.Answers.{object_numbers}
 use Rattle.sheet.specs.Refusal.{side_refusal, pair_refusal, object_refusal}
 use Rattle.sheet.specs.Lists.{list_refusal}
@@ -9,7 +10,6 @@ use Rattle.sheet.specs.Tags.{tagged}
 use Rattle.sheet.specs.Cases.{minus, segment, ray, line, side}
 use Rattle.number.specs.Number.{got, groups_of, bytes_of, value_of, needless, read_groups}
 use Rattle.store.specs.declared.Form.TheVariants.{Old, New}
-use Rattle.store.specs.declared.Formed.TheVariants.{Has, Refused}
 use Rattle.store.specs.Forms.{write_mark, write_tag, read_tag, longest_of, longest}
 use Rattle.store.specs.Stored.{refused, write_shape, write_object, write_drawing, tags_refusal, write_refusal, read_coordinate, read_side, read_point, read_to, read_pair, read_shape, read_object, read_objects, read_form, read_count, read_head, read_drawing, old_reader, form_of, move_refusal, moved}
 use Rattle.store.specs.Answers.{write_answer, write_into, move_answer, move_into, formed_says, form_answer}
@@ -103,7 +103,7 @@ pub record WorkedForms : Type 0 where
   -- which form, and what is told of it
   forms : (form_answer old_bytes ≡ pos 0 ∷ pos 1 ∷ []) × (form_answer new_bytes ≡ pos 0 ∷ pos 2 ∷ []) × (form_answer (232 ∷ 7 ∷ []) ≡ pos 7 ∷ [])
       × (form_answer (0 ∷ 0 ∷ []) ≡ pos 9 ∷ [])
-  told : (formed_says (Has Old) ≡ pos 0 ∷ pos 1 ∷ []) × (formed_says (Has New) ≡ pos 0 ∷ pos 2 ∷ []) × (formed_says (Refused (pos 9)) ≡ pos 9 ∷ [])
+  told : (formed_says (Ok Old) ≡ pos 0 ∷ pos 1 ∷ []) × (formed_says (Ok New) ≡ pos 0 ∷ pos 2 ∷ []) × (formed_says (Err BytesAfter) ≡ pos 9 ∷ [])
   lengths : (longest_of Old ≡ 4610) × (longest ≡ 6148)
 
 pub worked-forms : WorkedForms

@@ -2,16 +2,18 @@
 // specs/Stored.antt.
 #![tactic(auto)]
 
-ghost use Rattle.std.specs.Prelude.{◌≡◌, min};
+ghost use Rattle.std.specs.Prelude.{◌≡◌};
+ghost use Rattle.sheet.specs.Refused.{refused_by};
 ghost use Rattle.store.specs.Forms.{origin, longest_of};
 ghost use Rattle.store.specs.Stored.{read_drawing};
 ghost use Rattle.store.specs.Reader.{start_place, step_from, step_of, taken_of};
+ghost use Rattle.store.specs.Told.{read_told, write_told, step_told, take_told};
 ghost use Rattle.store.specs.Answers.{read_answer, read_into, write_answer, write_into, move_answer, move_into, formed_says, form_answer};
 
 use reading::{read_head, read_object, read_objects};
 use sheet::Object;
-use sheet::refusal::{BYTES_AFTER, NO_ROOM};
-use writing::{write_all, write_refusal};
+use sheet::refusal::{Refusal, Unfilled};
+use writing::{check_writing, write_all};
 
 mod reading; // reading.rt: points, objects and openings that bytes begin with
 mod writing; // writing.rt: the bytes of points and objects
@@ -55,161 +57,87 @@ fn longest_of(form: Form) -> usize
     }
 }
 
-// What reading a drawing into a lent list answers.
+// What was read into a lent list: how many objects, and how many numbers.
 #[derive(Clone, Copy)]
 pub struct Read {
-    pub refusal: i64,
     pub count: usize,
     pub length: usize,
 }
 
-// What writing a drawing into lent bytes answers.
-#[derive(Clone, Copy)]
-pub struct Written {
-    pub refusal: i64,
-    pub length: usize,
-}
-
-// 0, or the number of the refusal that reading the drawing meets first.
-pub fn check_drawing(bytes: &[u8]) -> i64
-    ensures { result ≡ (read_drawing bytes.now).refusal }
+// Refuses bytes that are no drawing, by what reading them meets first.
+pub fn check_drawing(bytes: &[u8]) -> Result<(), Refusal>
+    ensures { refused_by result ≡ (read_drawing bytes.now).refusal }
 {
-    let head = read_head(bytes);
-    let no = head.refusal;
-    if no != 0 {
-        return no;
-    }
-    let form = head.form;
-    let after = head.size;
+    let head = read_head(bytes)?;
     let mut nowhere = [0; 0];
-    read_objects(form, head.count, &bytes[after..], &mut nowhere)
-}
-
-// What is told of a drawing's form: the form, or the number of the refusal.
-#[derive(Clone, Copy)]
-pub enum Formed {
-    Has(Form),
-    Refused(i64),
+    read_objects(head.value.form, head.value.count, head.rest, &mut nowhere)
 }
 
 // The form that accepted bytes have; of others, what reading them meets first.
-pub fn form_of(bytes: &[u8]) -> Formed
+pub fn form_of(bytes: &[u8]) -> Result<Form, Refusal>
     ensures { formed_says result ≡ form_answer bytes.now }
 {
-    let no = check_drawing(bytes);
-    if no != 0 {
-        return Formed::Refused(no);
-    }
-    let head = read_head(bytes);
-    let form = head.form;
-    Formed::Has(form)
+    check_drawing(bytes)?;
+    Ok(read_head(bytes)?.value.form)
 }
 
 // The objects of a drawing, in order, at the front of a lent list: six numbers each.
-pub fn read_drawing(bytes: &[u8], out: &mut [i64]) -> Read
-    ensures answer { result ≡ read_answer (read_drawing bytes.now) out.old }
+pub fn read_drawing(bytes: &[u8], out: &mut [i64]) -> Result<Read, Unfilled>
+    ensures answer { read_told result ≡ read_answer (read_drawing bytes.now) out.old }
     ensures cells { out.new ≡ read_into (read_drawing bytes.now) out.old }
 {
-    let head = read_head(bytes);
-    let no = head.refusal;
-    if no != 0 {
-        return Read {
-            refusal: no,
-            count: 0,
-            length: 0,
-        };
-    }
-    let form = head.form;
-    let count = head.count;
-    let after = head.size;
+    let front = read_head(bytes)?;
+    let head = front.value;
     let mut nowhere = [0; 0];
-    let wrong = read_objects(form, count, &bytes[after..], &mut nowhere);
-    if wrong != 0 {
-        return Read {
-            refusal: wrong,
-            count: 0,
-            length: 0,
-        };
-    }
-    let length = count as usize * Object::WIDTH;
+    read_objects(head.form, head.count, front.rest, &mut nowhere)?;
+    let count = head.count as usize;
+    let length = count * Object::WIDTH;
     if out.len() < length {
-        return Read {
-            refusal: NO_ROOM,
-            count: 0,
-            length,
-        };
+        return Err(Unfilled::NoRoom(length));
     }
-    read_objects(form, count, &bytes[after..], out);
-    Read {
-        refusal: 0,
-        count: count as usize,
-        length,
-    }
+    // the same objects again: none is refused
+    let _ = read_objects(head.form, head.count, front.rest, out);
+    Ok(Read { count, length })
 }
 
-// A list of objects as a drawing of a form, at the front of lent bytes.
-pub fn write_drawing(form: Form, list: &[i64], out: &mut [u8]) -> Written
-    ensures answer { result ≡ write_answer form list.now out.old }
+// A list of objects as a drawing of a form, at the front of lent bytes. What is answered is its length.
+pub fn write_drawing(form: Form, list: &[i64], out: &mut [u8]) -> Result<usize, Unfilled>
+    ensures answer { write_told result ≡ write_answer form list.now out.old }
     ensures cells { out.new ≡ write_into form list.now out.old }
 {
-    let refusal = write_refusal(form, list);
-    if refusal != 0 {
-        return Written { refusal, length: 0 };
-    }
+    check_writing(form, list)?;
     if out.len() < longest_of(form) {
         let mut nowhere = [0; 0];
         let needed = write_all(form, list, &mut nowhere);
         if out.len() < needed {
-            return Written {
-                refusal: NO_ROOM,
-                length: needed,
-            };
+            return Err(Unfilled::NoRoom(needed));
         }
     }
-    let length = write_all(form, list, out);
-    Written { refusal: 0, length }
+    Ok(write_all(form, list, out))
 }
 
 // A drawing of either form as a drawing of the form that is asked for, at the front of lent bytes: it is read into a list, which has room for
 // every drawing, and written.
-pub fn move_drawing(bytes: &[u8], form: Form, out: &mut [u8]) -> Written
-    ensures answer { result ≡ move_answer form bytes.now out.old }
+pub fn move_drawing(bytes: &[u8], form: Form, out: &mut [u8]) -> Result<usize, Unfilled>
+    ensures answer { write_told result ≡ move_answer form bytes.now out.old }
     ensures cells { out.new ≡ move_into form bytes.now out.old }
 {
     let mut list = [0; NUMBERS];
-    let read = read_drawing(bytes, &mut list);
-    let no = read.refusal;
-    if no != 0 {
-        return Written {
-            refusal: no,
-            length: 0,
-        };
-    }
-    let end = read.length;
-    write_drawing(form, &list[0..end], out)
+    let read = read_drawing(bytes, &mut list)?;
+    write_drawing(form, &list[..read.length], out)
 }
 
-// What a call of the reader gives: an object, the end, or the number of the refusal.
+// Where a reader is: before its first call; then in the objects, by the form, how many are left, and where the next one begins.
 #[derive(Clone, Copy)]
-pub enum Item {
-    One(Object),
-    End,
-    Refused(i64),
+pub enum Bookmark {
+    Start,
+    In { form: Form, left: u64, at: usize },
 }
 
-// Where a reader is: whether the form and the count are read, the form, how many objects are left, and where the next one begins.
-#[derive(Clone, Copy)]
-pub struct Bookmark {
-    pub begun: bool,
-    pub form: Form,
-    pub left: u64,
-    pub at: usize,
-}
-
-// An item, and the place after it.
+// What a call of the reader gives, an object, the end or the refusal, and the place after it.
 #[derive(Clone, Copy)]
 pub struct Stepped {
-    pub item: Item,
+    pub item: Result<Option<Object>, Refusal>,
     pub place: Bookmark,
 }
 
@@ -220,91 +148,72 @@ pub struct Reader<'a> {
     pub place: Bookmark,
 }
 
-// An item, and the reader after it.
+// The same, and the reader after it.
 #[derive(Clone, Copy)]
 pub struct Taken<'a> {
     pub reader: Reader<'a>,
-    pub item: Item,
-}
-
-fn clamp(at: usize, end: usize) -> usize
-    ensures { result ≡ min at end }
-{
-    if at < end {
-        return at;
-    }
-    end
+    pub item: Result<Option<Object>, Refusal>,
 }
 
 fn step_from(bytes: &[u8], place: Bookmark, form: Form, left: u64, at: usize) -> Stepped
-    ensures { result ≡ step_from bytes.now place form left at }
+    ensures { step_told result ≡ step_from bytes.now place form left at }
 {
     if left == 0 {
         if at < bytes.len() {
             return Stepped {
-                item: Item::Refused(BYTES_AFTER),
+                item: Err(Refusal::BytesAfter),
                 place,
             };
         }
         return Stepped {
-            item: Item::End,
+            item: Ok(None),
             place,
         };
     }
-    let start = clamp(at, bytes.len());
-    let part = read_object(form, &bytes[start..]);
-    let fault = part.refusal;
-    if fault != 0 {
-        return Stepped {
-            item: Item::Refused(fault),
+    let start = at.min(bytes.len());
+    match read_object(form, &bytes[start..]) {
+        Err(refusal) => Stepped {
+            item: Err(refusal),
             place,
-        };
-    }
-    let object = part.object;
-    let after = start + part.next;
-    let fewer = left - 1;
-    Stepped {
-        item: Item::One(object),
-        place: Bookmark {
-            begun: true,
-            form,
-            left: fewer,
-            at: after,
+        },
+        Ok(object) => Stepped {
+            item: Ok(Some(object.value)),
+            place: Bookmark::In {
+                form,
+                left: left - 1,
+                at: bytes.len() - object.rest.len(),
+            },
         },
     }
 }
 
 // The work of a reader's call: what stands at a place of bytes, and the place after it.
 pub fn step(bytes: &[u8], place: Bookmark) -> Stepped
-    ensures { result ≡ step_of bytes.now place }
+    ensures { step_told result ≡ step_of bytes.now place }
 {
-    let begun = place.begun;
-    if begun {
-        let form = place.form;
-        return step_from(bytes, place, form, place.left, place.at);
+    if let Bookmark::In { form, left, at } = place {
+        return step_from(bytes, place, form, left, at);
     }
-    let head = read_head(bytes);
-    let no = head.refusal;
-    if no != 0 {
-        return Stepped {
-            item: Item::Refused(no),
+    match read_head(bytes) {
+        Err(refusal) => Stepped {
+            item: Err(refusal),
             place,
-        };
+        },
+        Ok(head) => step_from(
+            bytes,
+            place,
+            head.value.form,
+            head.value.count,
+            bytes.len() - head.rest.len(),
+        ),
     }
-    let form = head.form;
-    step_from(bytes, place, form, head.count, head.size)
 }
 
 // The place before the first call.
 pub fn start() -> Bookmark
     ensures { result ≡ start_place }
 {
-    Bookmark {
-        begun: false,
-        form: Form::Old,
-        left: 0,
-        at: 0,
-    }
+    Bookmark::Start
 }
 
 // A reader of bytes, before its first call. It never refuses.
@@ -319,7 +228,7 @@ pub fn open_reader<'a>(bytes: &'a [u8]) -> Reader<'a>
 
 // One object, the end or the refusal, with the reader after it. At the end and at a refusal the reader keeps its place.
 pub fn next<'a>(r: Reader<'a>) -> Taken<'a>
-    ensures { result ≡ taken_of r.entry }
+    ensures { take_told result ≡ taken_of r.entry }
 {
     let got = step(r.bytes, r.place);
     Taken {

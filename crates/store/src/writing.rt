@@ -2,6 +2,7 @@
 // gives the place behind, whether or not there is room: put into no bytes they are a count of them, so that an object is written in one place.
 // The two forms differ in `origin`, and in what `write_front` and `write_head` put.
 ghost use Rattle.std.specs.Prelude.{◌≡◌, ◌++◌, ◌+◌, ◌≤◌, nat_abs, ◌-ℤ◌};
+ghost use Rattle.sheet.specs.Refused.{refused_by};
 ghost use Rattle.sheet.specs.Limits.{reach_size, most};
 ghost use Rattle.sheet.specs.Lent.{Wrote};
 ghost use Rattle.sheet.specs.Lists.{count_of};
@@ -15,8 +16,8 @@ use crate::{Form, MARK, UNTAGGED, origin};
 use number::{put_stored, stored_size};
 use sheet::Object;
 use sheet::lent::behind;
-use sheet::lists::{list_refusal, object_at};
-use sheet::refusal::TAG_LOST;
+use sheet::lists::{check_list, object_at};
+use sheet::refusal::Refusal;
 
 // How many numbers are stored for two points.
 const PAIR: usize = 4;
@@ -63,39 +64,34 @@ fn all_untagged(list: &[i64]) -> bool
 {
     let n = list.len() / Object::WIDTH;
     let mut all = true;
-    let mut i = 0;
-    while i < n {
+    for i in 0..n {
         let o = object_at(list, i);
         all = all & (o.tag == UNTAGGED);
-        i += 1;
     }
     all
 }
 
-// What a form refuses an accepted list by: 16 in the old form, where an object has a tag; 0 for nothing.
-fn tags_refusal(form: Form, list: &[i64]) -> i64
-    ensures { result ≡ tags_refusal form list.now }
+// Refuses an accepted list by what a form has no place for: in the old form a tag.
+fn check_tags(form: Form, list: &[i64]) -> Result<(), Refusal>
+    ensures { refused_by result ≡ tags_refusal form list.now }
 {
     match form {
         Form::Old => {
             if all_untagged(list) {
-                return 0;
+                return Ok(());
             }
-            TAG_LOST
+            Err(Refusal::TagLost)
         }
-        Form::New => 0,
+        Form::New => Ok(()),
     }
 }
 
-// What a list that is to be written is refused by: the list's own, then 16; 0 for none.
-pub(crate) fn write_refusal(form: Form, list: &[i64]) -> i64
-    ensures { result ≡ write_refusal form list.now }
+// Refuses a list that is to be written: by the list's own, then by its tags.
+pub(crate) fn check_writing(form: Form, list: &[i64]) -> Result<(), Refusal>
+    ensures { refused_by result ≡ write_refusal form list.now }
 {
-    let no = list_refusal(list);
-    if no != 0 {
-        return no;
-    }
-    tags_refusal(form, list)
+    check_list(list)?;
+    check_tags(form, list)
 }
 
 // Puts an object's kind, and in the new form its tag.
@@ -151,11 +147,9 @@ pub(crate) fn write_objects(
     ensures { Wrote out.old out.new at result (write_objects form count list.now) }
 {
     let mut to = at;
-    let mut i = 0;
-    while i < count {
+    for i in 0..count {
         let object = object_at(list, i);
         to = write_object(form, object, out, to);
-        i += 1;
     }
     to
 }

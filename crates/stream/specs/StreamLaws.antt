@@ -6,17 +6,20 @@
 --   kept            where `!b` was not taken, b holds
 --   counted         so many bytes at the front
 --   not-begun       a text behind one that did not go
---   handed          a text of which so many bytes went
+--   handed          a text that went, or of which fewer bytes did than it has
 --   read_none, read_some   an input that could not be read; one that ended, or filled the cells
 --   went-more       what a writer took of a text's rest stands behind what it took before
 --   taken-more      what a reader gave into the cells behind `done` stands behind what it gave before
+--   beginning       what was read of an input is its beginning, as much as there are cells for
 --   front-went      a text that was handed on where all before it went: its front went
 -- Assumes nothing.
-use Rattle.std.specs.Prelude.{◌≡◌, refl, Bool, true, false, not, List, ℕ, ◌+◌, ◌-◌, ◌≤◌, eqb, length, take, drop, Option, None, Some, Result, Ok, Err, MatchResult}
-use Rattle.std.proofs.Common.{sym, subst, ap, ◌∙◌, true≢false, eqb-true, arith, length-drop, length-take-le}
-use Rattle.std.specs.Io.KnownBytes.{Appends, Consumes, Keeps, WriteAppends}
-use Rattle.stream.specs.declared.output.Sent.{Sent}
-use Rattle.stream.specs.Stream.{IsPrefixLen, gone, Moved, HandedOn, ReadInto, FrontWent}
+use Rattle.std.specs.Prelude.{◌≡◌, ◌++◌, ltb, IfSome, refl, Bool, true, false, not, List, ℕ, ◌+◌, ◌-◌, ◌≤◌, ◌<◌, length, take, drop, Option, None, Some, Result, Ok, Err, IfErr, MatchResult, is_ok}
+use Rattle.std.proofs.Common.{ltb-true, ltb-false, append-nil, take_all, take_at, sym, subst, ap, ◌∙◌, true≢false, eqb-true, arith, length-drop, length-take-le}
+use Rattle.std.specs.Io.KnownBytes.{Appends, Consumes, IsAtEnd, Keeps, WriteAppends}
+use Rattle.stream.specs.declared.output.Unwritten.{Unwritten}
+use Rattle.stream.specs.declared.input.Unread.{Unread}
+use Rattle.stream.specs.Stream.{IsPrefixLen, gone, Moved, HandedOn, ReadInto, FrontWent, sent}
+use Rattle.std.proofs.lemmas.Bool.{eq-eqb, ne_eqb}
 use lib.Seq.{take-add}
 use Rattle.std.proofs.KnownBytes.{Appends-trans, Consumes-trans, Consumes-kept}
 
@@ -53,20 +56,20 @@ pub kept : (b : Bool) → not b ≡ false → b ≡ true
 kept true e = refl
 kept false e = absurd (true≢false e)
 
-pub not-begun : (before : Bool) (text : List ℕ) → not before ≡ true → HandedOn before text (record { whole = false; length = 0 })
+pub not-begun : {A : Type 0} (before : Bool) (text : List ℕ) → not before ≡ true → HandedOn {A = A} before text (Err (record { length = 0 }))
 not-begun true text e = absurd (true≢false (sym e))
 not-begun false text e = record { front = omega arith; told = refl }
 
-pub handed : (before : Bool) (n : ℕ) (text : List ℕ) → not before ≡ false → n ≤ length text
-    → HandedOn before text (record { whole = eqb n (length text); length = n })
-handed true n text e h = record { front = h; told = refl }
-handed false n text e h = absurd (true≢false e)
+pub handed : {A : Type 0} (before : Bool) (text : List ℕ) (r : Result A Unwritten) → not before ≡ false → IfErr r (λ u. u.length < length text)
+    → HandedOn before text r
+handed true text (Ok x) e h = record { front = omega arith; told = sym (eq-eqb (length text) (length text) refl) }
+handed true text (Err u) e h = record { front = omega (arith, h); told = sym (ne_eqb u.length (length text) (λ q. omega (arith, h, q))) }
+handed false text r e h = absurd (true≢false e)
 
-pub read_none : (before after : List ℕ) → length after ≡ length before → ReadInto before after (record { whole = false; length = 0 })
-read_none before after e = record { cells = e; front = omega arith }
+pub read_none : (u : Unread) (before after : List ℕ) → length after ≡ length before → 0 < length after → ReadInto before after (Err u)
+read_none u before after e h = record { cells = e; front = h }
 
-pub read_some : (n : ℕ) (before after : List ℕ) → length after ≡ length before → n ≤ length after
-    → ReadInto before after (record { whole = true; length = n })
+pub read_some : (n : ℕ) (before after : List ℕ) → length after ≡ length before → n ≤ length after → ReadInto before after (Ok n)
 read_some n before after e h = record { cells = e; front = h }
 
 -- ---- the bytes themselves, where they are known
@@ -90,7 +93,25 @@ taken-more a b c old new done n (Ok k) e front before read =
 taken-more a b c old new done n (Err x) e front before read =
     subst (λ (m : ℕ). Consumes a c (take m new)) (sym e) (Consumes-kept a b c _ (subst (Consumes a b) (sym front) before) read)
 
-pub front-went : (before : Bool) (a b : Option (List ℕ)) (text : List ℕ) (r : Sent) → before ≡ true → HandedOn before text r → Appends a b (take r.length text)
-    → FrontWent r.whole a b text
-front-went true a b text r e h went = record { count = r.length; within = h.front; went = went; all = λ w. eqb-true r.length (length text) (sym h.told ∙ w) }
+pub front-went : {A : Type 0} (before : Bool) (a b : Option (List ℕ)) (text : List ℕ) (r : Result A Unwritten) → before ≡ true → HandedOn before text r
+    → Appends a b (take (sent text r) text) → FrontWent (is_ok r) a b text
+front-went true a b text r e h went = record { count = sent text r; within = h.front; went = went; all = λ w. eqb-true (sent text r) (length text) (sym h.told ∙ w) }
 front-went false a b text r e h went = absurd (true≢false (sym e))
+
+-- a reader that had `xs` gave their front: all of them, where there were no more, or as many as there are cells
+pub beginning : (most : ℕ) (a b : Option (List ℕ)) (got : ℕ) (bytes : List ℕ) → length bytes ≡ most → got ≤ length bytes → Consumes a b (take got bytes)
+    → (got < length bytes → IsAtEnd b) → IfSome a (λ xs. take got bytes ≡ take most xs)
+beginning most None b got bytes long within read end = tt
+beginning most (Some xs) None got bytes long within read end = absurd read
+beginning most (Some xs) (Some ys) got bytes long within read end = go (ltb got (length bytes)) (ltb-true got (length bytes)) (ltb-false got (length bytes))
+  where
+    size : length (take got bytes) ≡ got
+    size = length-take-le got bytes within
+
+    go : (t : Bool) → (t ≡ true → got < length bytes) → (t ≡ false → length bytes ≤ got) → take got bytes ≡ take most xs
+    go true y m =
+        let all : xs ≡ take got bytes = read ∙ ap (λ (l : List ℕ). take got bytes ++ l) (end (y refl)) ∙ append-nil (take got bytes) in
+        sym (ap (take most) all ∙ take_all most (take got bytes) (omega (arith, size)))
+    go false y m =
+        let full : length (take got bytes) ≡ most = let h = m refl in omega (arith, size) in
+        sym (ap (take most) read ∙ take_at (take got bytes) ys most full)

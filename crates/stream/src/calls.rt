@@ -1,7 +1,4 @@
 // Reads and writes that are made until they need not be made again: one that was interrupted at once, and one that would block after a while.
-ghost use Rattle.std.specs.Prelude.{◌≡◌, ◌-◌, ◌≤◌};
-ghost use Rattle.stream.specs.Stream.{Moved, gone};
-
 use std::fmt::InlineText;
 use std::io::{Error, ErrorKind};
 use std::thread;
@@ -19,7 +16,7 @@ fn wait(rt: &impl Clock) {
 }
 
 // Whether a call that failed is to be made again.
-fn again(rt: &impl Clock, error: Error) -> bool {
+pub(crate) fn again(rt: &impl Clock, error: Error) -> bool {
     match error.kind() {
         ErrorKind::Interrupted => true,
         ErrorKind::WouldBlock => {
@@ -30,36 +27,12 @@ fn again(rt: &impl Clock, error: Error) -> bool {
     }
 }
 
-// Whether bytes go on after such an answer.
-pub(crate) fn goes_on(rt: &impl Clock, answer: Result<usize, Error>) -> bool {
-    match answer {
-        Ok(moved) => moved > 0,
-        Err(error) => again(rt, error),
-    }
-}
-
-// How many of `all` bytes have gone after a call on those behind `done`.
-pub(crate) fn after(done: usize, answer: Result<usize, Error>, all: usize) -> usize
-    requires done_le_all { done ≤ all }
-    requires moved { Moved (all - done) answer }
-    ensures value { result ≡ gone done answer }
-    ensures upper_bound { result ≤ all }
-{
-    match answer {
-        Ok(moved) => done + moved,
-        Err(_) => done,
-    }
-}
-
 // The bytes that an error's text has at most, with the number behind it.
 const LONGEST_ERROR: usize = 256;
 
 // An error's text as the C library has it: std puts the error's number behind it.
 fn without_number(text: &str) -> &str {
-    match text.split_once(" (os error ") {
-        Some((why, _)) => why,
-        None => text,
-    }
+    text.split_once(" (os error ").map_or(text, |(why, _)| why)
 }
 
 // Says on standard error that a call failed, and why.

@@ -8,14 +8,13 @@ use Rattle.screen.specs.Quotient.{zero+}
 use Rattle.screen.specs.Values.{Values, float_answer}
 use Rattle.screen.specs.Places.{place_of}
 use Rattle.sheet.specs.Lists.{list_refusal}
-use Rattle.number.specs.declared.Number.{Number}
+use Rattle.number.specs.Number.{Said}
 use Rattle.screen.specs.Boxes.{ends_of, box_of, box_says}
 use Rattle.store.specs.declared.Form.{Form}
 use Rattle.store.specs.declared.Form.TheVariants.{Old, New}
-use Rattle.store.specs.declared.Written.{Written}
 use Rattle.store.specs.Stored.{read_drawing, form_of}
-use Rattle.store.specs.Answers.{form_number}
-use Rattle.listing.specs.declared.Listed.{Listed}
+use Rattle.store.specs.Answers.{WriteSays, form_number}
+use Rattle.listing.specs.Listing.{ListedTold}
 use Rattle.trial.specs.declared.RowCounts.{RowCounts}
 use Rattle.trial.specs.declared.TwoNumbers.{TwoNumbers}
 use Rattle.trial.specs.declared.SixNumbers.{SixNumbers}
@@ -29,13 +28,13 @@ form_from n = cond (eq_z n (form_number New)) New Old
 abbrev pub form_told : List ℕ → ℤ
 form_told bytes = cond (eq_z (read_drawing bytes).refusal (pos 0)) (form_number (form_of bytes)) (pos 100 +ℤ (read_drawing bytes).refusal)
 
-abbrev pub counts_of : Listed → RowCounts
+abbrev pub counts_of : ListedTold → RowCounts
 counts_of r = record { refusal = r.refusal; rows = r.rows; length = r.length }
 
-abbrev pub two_of : Written → TwoNumbers
+abbrev pub two_of : WriteSays → TwoNumbers
 two_of r = record { refusal = r.refusal; length = r.length }
 
-abbrev pub three_of : Number → ThreeNumbers
+abbrev pub three_of : Said → ThreeNumbers
 three_of n = record { refusal = n.refusal; value = n.value; size = n.size }
 
 abbrev pub six_of : Values → SixNumbers

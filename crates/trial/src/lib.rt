@@ -1,4 +1,5 @@
 // Calls for bench/ and tests/, so that a C program can time the listing and the stored drawings, and compare stored numbers, places and boxes.
+// C takes no enum, so a refusal is a number here, beside the others.
 #![tactic(auto)]
 
 mod numbers;
@@ -15,7 +16,6 @@ ghost use Rattle.trial.specs.Numbers.{form_from, form_told, counts_of, two_of, t
 
 use numbers::{form_from, form_number};
 use sheet::Point;
-use store::Formed;
 
 // A place or a box: the refusal or 0, the side number or the flag, and the floats, from the front.
 #[repr(C)]
@@ -62,46 +62,49 @@ pub fn silvanelga_trial_list(list: &[i64], joints: bool, rows: &mut [i64]) -> Ro
     ensures value { result ≡ counts_of (listed (list_refusal list.now) (sharing joints list.now) (length rows.old)) }
     ensures rows_after { rows.new ≡ filled (list_refusal list.now) (rows_of joints list.now) rows.old }
 {
-    numbers::of_listed(listing::list_all(list, joints, rows))
+    listing::list_all(list, joints, rows).into()
 }
 
 pub fn silvanelga_trial_near(list: &[i64], joints: bool, rows: &mut [i64]) -> RowCounts
     ensures value { result ≡ counts_of (listed (list_refusal list.now) (sharing joints list.now) (length rows.old)) }
     ensures rows_after { rows.new ≡ filled (list_refusal list.now) (rows_of joints list.now) rows.old }
 {
-    numbers::of_listed(listing::list_near(list, joints, rows))
+    listing::list_near(list, joints, rows).into()
 }
 
 pub fn silvanelga_trial_one(list: &[i64], i: usize, joints: bool, rows: &mut [i64]) -> RowCounts
     ensures value { result ≡ counts_of (listed (one_refusal list.now i) (sharing_with joints list.now i) (length rows.old)) }
     ensures rows_after { rows.new ≡ filled (one_refusal list.now i) (rows_with joints list.now i) rows.old }
 {
-    numbers::of_listed(listing::list_one(list, i, joints, rows))
+    listing::list_one(list, i, joints, rows).into()
 }
 
 pub fn silvanelga_trial_read(bytes: &[u8], list: &mut [i64]) -> i64
     ensures value { result ≡ (read_answer (read_drawing bytes.now) list.old).refusal }
     ensures list_after { list.new ≡ read_into (read_drawing bytes.now) list.old }
 {
-    let read_refusal = store::read_drawing(bytes, list).refusal;
-    read_refusal
+    match store::read_drawing(bytes, list) {
+        Ok(_read) => 0,
+        Err(unread) => unread.into(),
+    }
 }
 
 pub fn silvanelga_trial_write(form: i64, list: &[i64], bytes: &mut [u8]) -> i64
     ensures value { result ≡ (write_answer (form_from form) list.now bytes.old).refusal }
     ensures bytes_after { bytes.new ≡ write_into (form_from form) list.now bytes.old }
 {
-    let write_refusal = store::write_drawing(form_from(form), list, bytes).refusal;
-    write_refusal
+    match store::write_drawing(form_from(form), list, bytes) {
+        Ok(_length) => 0,
+        Err(unwritten) => unwritten.into(),
+    }
 }
 
 pub fn silvanelga_trial_form(bytes: &[u8]) -> i64
     ensures { result ≡ form_told bytes.now }
 {
-    let formed = store::form_of(bytes);
-    match formed {
-        Formed::Has(form) => form_number(form),
-        Formed::Refused(refusal) => REFUSED + refusal,
+    match store::form_of(bytes) {
+        Ok(form) => form_number(form),
+        Err(refusal) => REFUSED + i64::from(refusal),
     }
 }
 
@@ -109,24 +112,13 @@ pub fn silvanelga_trial_move(bytes: &[u8], form: i64, out: &mut [u8]) -> TwoNumb
     ensures value { result ≡ two_of (move_answer (form_from form) bytes.now out.old) }
     ensures out_after { out.new ≡ move_into (form_from form) bytes.now out.old }
 {
-    let moved = store::move_drawing(bytes, form_from(form), out);
-    let refusal = moved.refusal;
-    let length = moved.length;
-    TwoNumbers { refusal, length }
+    store::move_drawing(bytes, form_from(form), out).into()
 }
 
 pub fn silvanelga_trial_number(bytes: &[u8]) -> ThreeNumbers
     ensures { result ≡ three_of (number_of bytes.now (read_number bytes.now)) }
 {
-    let read = number::read_number(bytes);
-    let refusal = read.refusal;
-    let value = read.value;
-    let size = read.size;
-    ThreeNumbers {
-        refusal,
-        value,
-        size,
-    }
+    number::read_number(bytes).into()
 }
 
 pub fn silvanelga_trial_put(numbers: &[u64], bytes: &mut [u8], at: usize) -> usize
@@ -138,11 +130,11 @@ pub fn silvanelga_trial_put(numbers: &[u64], bytes: &mut [u8], at: usize) -> usi
 pub fn silvanelga_trial_place(mx: i64, nx: i64, my: i64, ny: i64, w: i64) -> SixNumbers
     ensures { result ≡ place_answer (record { mx = mx; nx = nx; my = my; ny = ny; w = w }) }
 {
-    numbers::of_place(screen::places::place_of(Point { mx, nx, my, ny, w }))
+    screen::places::place_of(Point { mx, nx, my, ny, w }).into()
 }
 
 pub fn silvanelga_trial_box(list: &[i64]) -> SixNumbers
     ensures { result ≡ box_answer list.now }
 {
-    numbers::of_box(screen::boxes::box_of(list))
+    screen::boxes::box_of(list).into()
 }

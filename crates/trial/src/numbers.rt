@@ -1,30 +1,75 @@
-// What a listing answers as a struct of its own, which C may take; forms as numbers; places and boxes as six numbers, a struct by value, since C
-// takes no enum.
+// What C takes by value, from what the calls answer, since C takes no enum: a refusal is its number, and every other number is then 0, but for
+// the length needed where lent cells have no room.
 ghost use Rattle.std.specs.Prelude.{◌≡◌};
+ghost use Rattle.number.specs.Number.{number_says};
 ghost use Rattle.screen.specs.Places.{place_says};
-ghost use Rattle.screen.specs.Boxes.{box_says, boxed_says};
+ghost use Rattle.screen.specs.Boxes.{boxed_says};
+ghost use Rattle.listing.specs.Listing.{listed_told};
 ghost use Rattle.store.specs.Answers.{form_number};
-ghost use Rattle.trial.specs.Numbers.{form_from, counts_of, six_of};
+ghost use Rattle.store.specs.Told.{write_told};
+ghost use Rattle.trial.specs.Numbers.{form_from, counts_of, two_of, three_of, six_of};
 
-use crate::{RowCounts, SixNumbers};
+use crate::{RowCounts, SixNumbers, ThreeNumbers, TwoNumbers};
 use listing::Listed;
-use screen::{Boxed, OnScreen, SheetBox};
+use number::Number;
+use screen::{OnScreen, SheetBox};
+use sheet::refusal::{Refusal, Unfilled};
 use store::Form;
 
-pub fn of_listed(listed: Listed) -> RowCounts
-    ensures { result ≡ counts_of listed }
-{
-    let refusal = listed.refusal;
-    let rows = listed.rows;
-    let length = listed.length;
-    RowCounts {
-        refusal,
-        rows,
-        length,
+impl From<Result<Listed, Unfilled>> for RowCounts {
+    ghost from_gives = { λ listed counts. counts ≡ counts_of (listed_told listed) };
+
+    fn from(listed: Result<Listed, Unfilled>) -> RowCounts {
+        match listed {
+            Ok(listed) => RowCounts {
+                refusal: 0,
+                rows: listed.rows,
+                length: listed.length,
+            },
+            Err(unlisted) => RowCounts {
+                refusal: unlisted.into(),
+                rows: 0,
+                length: unlisted.needed(),
+            },
+        }
     }
 }
 
-// The numbers of the forms.
+// Of what was written, its length.
+impl From<Result<usize, Unfilled>> for TwoNumbers {
+    ghost from_gives = { λ written numbers. numbers ≡ two_of (write_told written) };
+
+    fn from(written: Result<usize, Unfilled>) -> TwoNumbers {
+        match written {
+            Ok(length) => TwoNumbers { refusal: 0, length },
+            Err(unwritten) => TwoNumbers {
+                refusal: unwritten.into(),
+                length: unwritten.needed(),
+            },
+        }
+    }
+}
+
+impl From<Result<Number, Refusal>> for ThreeNumbers {
+    ghost from_gives = { λ read numbers. numbers ≡ three_of (number_says read) };
+
+    fn from(read: Result<Number, Refusal>) -> ThreeNumbers {
+        match read {
+            Ok(number) => ThreeNumbers {
+                refusal: 0,
+                value: number.value,
+                size: number.size,
+            },
+            Err(refusal) => ThreeNumbers {
+                refusal: refusal.into(),
+                value: 0,
+                size: 0,
+            },
+        }
+    }
+}
+
+// The numbers of the forms, for C.
 const OLD: i64 = 1;
 
 const NEW: i64 = 2;
@@ -61,28 +106,27 @@ fn six(refusal: i64, number: i64, first: f64, second: f64, third: f64, fourth: f
     }
 }
 
-pub fn of_place(place: OnScreen) -> SixNumbers
-    ensures { result ≡ six_of (place_says place) }
-{
-    match place {
-        OnScreen::At(x, y) => six(0, 0, x, y, 0.0, 0.0),
-        OnScreen::Edge(side, slope, offset) => six(0, side, slope, offset, 0.0, 0.0),
-        OnScreen::Refused(refusal) => six(refusal, 0, 0.0, 0.0, 0.0, 0.0),
+impl From<Result<OnScreen, Refusal>> for SixNumbers {
+    ghost from_gives = { λ place numbers. numbers ≡ six_of (place_says place) };
+
+    fn from(place: Result<OnScreen, Refusal>) -> SixNumbers {
+        match place {
+            Ok(OnScreen::At(x, y)) => six(0, 0, x, y, 0.0, 0.0),
+            Ok(OnScreen::Edge(side, slope, offset)) => six(0, side, slope, offset, 0.0, 0.0),
+            Err(no) => six(no.into(), 0, 0.0, 0.0, 0.0, 0.0),
+        }
     }
 }
 
-fn of_around(e: SheetBox) -> SixNumbers
-    ensures { result ≡ six_of (box_says e) }
-{
-    let flag = e.none as i64;
-    six(0, flag, e.low.x, e.low.y, e.high.x, e.high.y)
-}
+// The flag is 1 where there is no end to be around.
+impl From<Result<Option<SheetBox>, Refusal>> for SixNumbers {
+    ghost from_gives = { λ boxed numbers. numbers ≡ six_of (boxed_says boxed) };
 
-pub fn of_box(boxed: Boxed) -> SixNumbers
-    ensures { result ≡ six_of (boxed_says boxed) }
-{
-    match boxed {
-        Boxed::Around(e) => of_around(e),
-        Boxed::Refused(refusal) => six(refusal, 0, 0.0, 0.0, 0.0, 0.0),
+    fn from(boxed: Result<Option<SheetBox>, Refusal>) -> SixNumbers {
+        match boxed {
+            Ok(Some(e)) => six(0, 0, e.low.x, e.low.y, e.high.x, e.high.y),
+            Ok(None) => six(0, 1, 0.0, 0.0, 0.0, 0.0),
+            Err(refusal) => six(refusal.into(), 0, 0.0, 0.0, 0.0, 0.0),
+        }
     }
 }

@@ -1,24 +1,31 @@
 -- The viewer's calls, step by step as the code goes. To cite:
 --   call-more                 a later call of a reader is one call fewer from the place after this one
---   place-far, place-near     a point beyond 2,000 and one that is not; side-taken: the kernel then refuses nothing
---   answer-bytes, answer-index, answer-object   the bytes' own refusal, 13, and the side of the object
+--   side-taken                the kernel refuses nothing for a point that is not beyond 2,000
+--   index-first, place-next   13 where the index is wrong, and what is left where it is right
+--   told-sign, told-refusal   the answer, of what the call says: its sign, or 100 plus its refusal
 --   far_index, index-far, Natural, index-natural   an index that no drawing has, and a natural one
---   found, missed             what a call of the reader says of the index
+--   found, missed, never-refused   what a call of the reader says of the index, and what it never says
 -- Assumes nothing.
 use Rattle.std.proofs.Math.Path.{◌≡◌, refl, ap}
-use Rattle.std.proofs.Common.{◌∙◌, inl, inr, true≢false, arith, lt-ltb, le-ltb, ltb-true, ltb-false, leb-true, leb-false}
-use Rattle.std.specs.Prelude.{◌⊎◌, Bool, ◌||◌, List, ℕ, zero, suc, ◌*◌, ◌-◌, ◌<◌, ◌≤◌, leb, ltb, ℤ, negsuc, ◌+ℤ◌}
+use Rattle.std.proofs.Common.{sym, ◌∙◌, inl, inr, true≢false, arith, lt-ltb, le-ltb, ltb-true, ltb-false, leb-true, leb-false}
+use Rattle.std.specs.Prelude.{◌⊎◌, Bool, ◌||◌, List, [], ◌∷◌, ℕ, suc, ◌*◌, ◌<◌, ◌≤◌, leb, ltb, ℤ, negsuc, ◌+ℤ◌}
 use Rattle.std.proofs.Math.Bool.{true, false, cond}
-use Rattle.std.proofs.Math.IntN.{pos, nat_abs}
+use Rattle.std.proofs.Math.IntN.{pos, nat_abs, ℤ_discrete}
 use Rattle.std.proofs.Math.ListN.{length}
 use Rattle.std.specs.Int.Signed.{lt_z, le_z}
 use Rattle.whole.specs.Bound.{w-intro}
 use Rattle.whole.specs.Tests.{eq-eq_z, ne-eq_z}
+use Rattle.whole.specs.Choice.{or_else}
 use Rattle.sheet.specs.declared.Object.{Object}
 use Rattle.sheet.specs.Limits.{most}
 use Rattle.sheet.specs.Refusal.{beyond, object_refusal}
 use Rattle.sheet.specs.Points.{point_refusal}
-use Rattle.sheet.specs.Signs.{side_sign, side_sign_refusal}
+use Rattle.sheet.specs.declared.refusal.Refusal.{Refusal}
+use Rattle.sheet.specs.Refused.{no_of}
+use Rattle.sheet.specs.RefusedLaws.{no-zero}
+use Rattle.sheet.specs.Answers.{answer}
+use Rattle.sheet.specs.AnswersLaws.{accepted, refused}
+use Rattle.sheet.specs.Signs.{side_sign_refusal}
 use Rattle.sheet.specs.Lists.{width, count_of, object_at}
 use Rattle.sheet.specs.Listable.{Listable}
 use Rattle.sheet.specs.Flags.{neither, either, flags}
@@ -26,56 +33,61 @@ use Rattle.sheet.proofs.RefusalLaws.{WithinBoth}
 use Rattle.sheet.specs.PointsLaws.{point-is}
 use Rattle.sheet.proofs.EndsLaws.{given-fine}
 use Rattle.store.specs.declared.Bookmark.{Bookmark}
-use Rattle.store.specs.declared.Item.TheVariants.{One, End}
 use Rattle.store.specs.Stored.{Drawing}
-use Rattle.store.specs.Reader.{step_of, call_from, end_of, item_of}
-use Rattle.viewer.specs.Calls.{object, whole, index_refusal, side_in}
-use Rattle.viewer.specs.SideFor.{side_for}
+use Rattle.store.specs.Reader.{One, End, Refused, step_of, call_from, end_of, item_of}
+use Rattle.viewer.specs.Calls.{object, whole, index_refusal, place_refusal, sign_or}
 
-pub call-more : (bs : List ℕ) (p : Bookmark) (k : ℕ) → 0 < k → call_from bs p k ≡ call_from bs (step_of bs p).place (k - 1)
+pub call-more : (bs : List ℕ) (p : Bookmark) {k m : ℕ} → k ≡ suc m → call_from bs p k ≡ call_from bs (step_of bs p).place m
 unfolding call_from
-call-more bs p zero h = absurd (omega arith)
-call-more bs p (suc k) h = let e : k ≡ suc k - 1 = omega arith in ap (call_from bs (step_of bs p).place) e
+call-more bs p e = ap (call_from bs p) e
 
 -- ---- the point
 
-module _ (x y : ℤ) where
-  pub place-far : (o : Object) → (beyond x || beyond y) ≡ true → pos 102 ≡ side_for o x y
-  unfolding side_for
-  place-far o e = simp e
+module _ (x y : ℤ) (e : (beyond x || beyond y) ≡ false) where
+  place-point : point_refusal (whole x y) ≡ pos 0
+  unfolding point_refusal
+  place-point =
+      let f = simp flags at e in
+      let s : WithinBoth 2000 (record { x = x; y = y }) = record { in_x = w-intro f.0.0 f.0.1; in_y = w-intro f.1.0 f.1.1 } in
+      simp ((point-is (whole x y)).1 (given-fine s).point)
 
-  module _ (e : (beyond x || beyond y) ≡ false) where
-    pub place-near : (o : Object) → side_sign o (whole x y) ≡ side_for o x y
-    unfolding side_for
-    place-near o = simp e
-
-    place-point : point_refusal (whole x y) ≡ pos 0
-    unfolding point_refusal
-    place-point =
-        let f = simp flags at e in
-        let s : WithinBoth 2000 (record { x = x; y = y }) = record { in_x = w-intro f.0.0 f.0.1; in_y = w-intro f.1.0 f.1.1 } in
-        simp ((point-is (whole x y)).1 (given-fine s).point)
-
-    -- the kernel refuses neither the object nor the point
-    pub side-taken : (o : Object) → object_refusal o ≡ pos 0 → side_sign_refusal o (whole x y) ≡ pos 0
-    unfolding side_sign_refusal
-    side-taken o h = simp (eq-eq_z h, place-point)
+  -- the kernel refuses neither the object nor the point
+  pub side-taken : (o : Object) → object_refusal o ≡ pos 0 → side_sign_refusal o (whole x y) ≡ pos 0
+  unfolding side_sign_refusal
+  side-taken o h = simp (eq-eq_z h, place-point)
 
 -- ---- the index
 
 module _ (d : Drawing) (i x y : ℤ) where
-  pub answer-bytes : (d.refusal ≡ pos 0 → ⊥) → side_in d i x y ≡ pos 100 +ℤ d.refusal
-  unfolding side_in
-  answer-bytes h = simp (ne-eq_z h)
+  pub index-first : index_refusal d i ≡ pos 13 → pos 13 ≡ or_else (index_refusal d i) (place_refusal x y)
+  index-first e = simp e
 
-  module _ (z : d.refusal ≡ pos 0) where
-    pub answer-index : index_refusal d i ≡ pos 13 → side_in d i x y ≡ pos 113
-    unfolding side_in
-    answer-index e = simp (eq-eq_z z, e)
+  pub place-next : index_refusal d i ≡ pos 0 → or_else (index_refusal d i) (place_refusal x y) ≡ place_refusal x y
+  place-next e = simp e
 
-    pub answer-object : index_refusal d i ≡ pos 0 → side_in d i x y ≡ side_for (object d i) x y
-    unfolding side_in side_for
-    answer-object e = simp (eq-eq_z z, e)
+-- ---- the answer
+
+pub told-sign : (n v : ℤ) {s : ℤ} → pos 0 ∷ s ∷ [] ≡ answer n (v ∷ []) → (s ≡ v) × (v ≡ sign_or n v)
+told-sign n v {s} e = go (ℤ_discrete n (pos 0))
+  where
+    go : Dec (n ≡ pos 0) → (s ≡ v) × (v ≡ sign_or n v)
+    go (yes z) =
+        let said : pos 0 ∷ s ∷ [] ≡ pos 0 ∷ v ∷ [] = e ∙ accepted (v ∷ []) z in
+        let same : s ≡ v = cc in (same, sym (simp (eq-eq_z z)))
+    go (no d) =
+        let said : pos 0 ∷ s ∷ [] ≡ n ∷ [] = e ∙ refused (v ∷ []) d in
+        let z : n ≡ pos 0 = cc in absurd (d z)
+
+pub told-refusal : (n v : ℤ) (r : Refusal) → no_of r ∷ [] ≡ answer n (v ∷ []) → pos 100 +ℤ no_of r ≡ sign_or n v
+told-refusal n v r e = go (ℤ_discrete n (pos 0))
+  where
+    go : Dec (n ≡ pos 0) → pos 100 +ℤ no_of r ≡ sign_or n v
+    go (yes z) =
+        let said : no_of r ∷ [] ≡ pos 0 ∷ v ∷ [] = e ∙ accepted (v ∷ []) z in
+        let z : no_of r ≡ pos 0 = cc in absurd (no-zero r z)
+    go (no d) =
+        let said : no_of r ∷ [] ≡ n ∷ [] = e ∙ refused (v ∷ []) d in
+        let same : no_of r ≡ n = cc in ap (λ (m : ℤ). pos 100 +ℤ m) same ∙ sym (simp (ne-eq_z d))
 
 -- below 0, or too large for any drawing
 abbrev pub far_index : ℤ → Bool
@@ -124,13 +136,20 @@ module _ (d : Drawing) (g : Listable d.objects) where
             let z : ◌≡◌ {A = ℕ} 0 1 = cc in
             absurd (omega arith)
 
-    -- and where it gives none
-    pub missed : ((o : Object) → item_of d (nat_abs i) ≡ One o → ⊥) → index_refusal d i ≡ pos 13
+    -- and where it gives the end; a refusal it does not give
+    pub missed : End ≡ item_of d (nat_abs i) → index_refusal d i ≡ pos 13
     unfolding item_of
-    missed h = go (ltb at (length d.objects)) (ltb-false at (length d.objects)) h
+    missed e = go (ltb at (length d.objects)) (ltb-false at (length d.objects)) e
       where
-        go : (t : Bool) → (t ≡ false → length d.objects ≤ at)
-            → ((o : Object) → cond t (One (object_at d.objects (nat_abs i))) (end_of d.refusal) ≡ One o → ⊥)
+        go : (t : Bool) → (t ≡ false → length d.objects ≤ at) → End ≡ cond t (One (object_at d.objects (nat_abs i))) (end_of d.refusal)
             → index_refusal d i ≡ pos 13
-        go true y h = absurd (h (object_at d.objects (nat_abs i)) refl)
-        go false y h = ap (index_refusal d) n.is ∙ index-past (nat_abs i) (omega (arith, y refl, g.whole))
+        go true y e = let no : ⊥ = cc in absurd no
+        go false y e = ap (index_refusal d) n.is ∙ index-past (nat_abs i) (omega (arith, y refl, g.whole))
+
+    pub never-refused : {r : ℤ} → Refused r ≡ item_of d (nat_abs i) → ⊥
+    unfolding item_of
+    never-refused {r} e = go (ltb at (length d.objects)) e
+      where
+        go : (t : Bool) → Refused r ≡ cond t (One (object_at d.objects (nat_abs i))) (end_of d.refusal) → ⊥
+        go true e = cc
+        go false e = let f : Refused r ≡ End = e ∙ simp (eq-eq_z z) in cc

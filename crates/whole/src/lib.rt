@@ -1,7 +1,7 @@
 // Whole numbers: their sign, their size, their greatest common divisor, and the first that is not 0. Nothing here knows of sheets.
 #![tactic(auto)]
 
-ghost use Rattle.std.specs.Prelude.{◌≡◌, ◌⊎◌, ◌≤◌, nat_abs};
+ghost use Rattle.std.specs.Prelude.{◌≡◌, nat_abs};
 ghost use Rattle.whole.specs.Sign.{sgn};
 ghost use Rattle.whole.specs.Divisor.{IsGcd};
 ghost use Rattle.whole.specs.Choice.{or_else};
@@ -10,35 +10,14 @@ ghost use Rattle.whole.specs.Choice.{or_else};
 pub fn sign(x: i64) -> i64
     ensures { result ≡ sgn x }
 {
-    if x < 0 {
-        return -1;
-    }
-    if x == 0 {
-        return 0;
-    }
-    1
+    x.signum()
 }
 
-// How far x is from 0. The smallest i64 has no opposite in an i64, so 1 is added after the change of sign.
+// How far x is from 0. The smallest i64 has no opposite in an i64, but in a u64.
 pub fn size(x: i64) -> u64
     ensures { result ≡ nat_abs x }
 {
-    if x < 0 {
-        let below = -(x + 1);
-        return below as u64 + 1;
-    }
-    x as u64
-}
-
-// The smaller of two numbers.
-fn least(a: u64, b: u64) -> u64
-    ensures fact { (result ≡ a) ⊎ (result ≡ b) }
-    ensures upper_bound { (result ≤ a) × (result ≤ b) }
-{
-    if b < a {
-        return b;
-    }
-    a
+    x.unsigned_abs()
 }
 
 // The greatest common divisor by remainders, the second argument falling, and stopping as soon as it is 1. Of the remainders of x, what it
@@ -52,7 +31,7 @@ pub fn gcd(a: u64, b: u64) -> u64
         let rest = x % y;
         let lack = y - rest;
         x = y;
-        y = least(rest, lack);
+        y = rest.min(lack);
     }
     if y == 1 {
         return 1;

@@ -1,8 +1,9 @@
 // Stored drawings: read, checked and written, with the lent cells shown. A cell that holds 7 has not been touched.
-use crate::say;
+use crate::say::{Cells, refused_by};
 use sheet::Object;
+use sheet::refusal::Unfilled;
 use std::io;
-use store::Form;
+use store::{Form, check_drawing, read_drawing, write_drawing};
 
 const UNTOUCHED: i64 = 7;
 
@@ -18,68 +19,61 @@ pub const TOO_MANY: usize = (Object::MOST + 1) * Object::WIDTH;
 const FULL: usize = 2 + Object::MOST * 2;
 
 // The answer, and the cells of a lent list after the call: room for one object, and one cell more.
-pub fn read(rt: &impl Print, bytes: &[u8]) -> io::Result<()> {
+pub fn read(rt: &impl Print, words: &str, bytes: &[u8]) -> io::Result<()> {
     let mut list = [UNTOUCHED; ROOM];
-    let read = store::read_drawing(bytes, &mut list);
-    say::number(rt, read.refusal)?;
-    say::count(rt, read.count as u64)?;
-    say::count(rt, read.length as u64)?;
-    say::text(rt, " cells")?;
-    say::numbers(rt, &list)?;
-    say::end(rt)
+    let answer = read_drawing(bytes, &mut list);
+    let cells = Cells(&list);
+    match answer {
+        Ok(read) => println!(rt; "{words} 0 {} {} cells{cells}", read.count, read.length),
+        Err(no) => println!(rt; "{words} {} 0 {} cells{cells}", i64::from(no), no.needed()),
+    }
 }
 
-// The answer of writing in the old form, and four lent bytes after the call.
-pub fn write(rt: &impl Print, list: &[i64]) -> io::Result<()> {
+// The answer of a call that writes, and the lent bytes after it.
+pub fn written(
+    rt: &impl Print,
+    words: &str,
+    answer: Result<usize, Unfilled>,
+    bytes: &[u8],
+) -> io::Result<()> {
+    let cells = Cells(bytes);
+    match answer {
+        Ok(length) => println!(rt; "{words} 0 {length} bytes{cells}"),
+        Err(no) => println!(rt; "{words} {} {} bytes{cells}", i64::from(no), no.needed()),
+    }
+}
+
+// In the old form, with four lent bytes.
+pub fn write(rt: &impl Print, words: &str, list: &[i64]) -> io::Result<()> {
     let mut bytes = [UNTOUCHED_BYTE; 4];
-    let written = store::write_drawing(Form::Old, list, &mut bytes);
-    say::number(rt, written.refusal)?;
-    say::count(rt, written.length as u64)?;
-    say::text(rt, " bytes")?;
-    say::byte(rt, bytes[0])?;
-    say::byte(rt, bytes[1])?;
-    say::byte(rt, bytes[2])?;
-    say::byte(rt, bytes[3])?;
-    say::end(rt)
+    let answer = write_drawing(Form::Old, list, &mut bytes);
+    written(rt, words, answer, &bytes)
 }
 
 pub fn reading(rt: &impl Print) -> io::Result<()> {
-    say::text(rt, "stored 4000")?;
-    read(rt, &[1, 1, 0xa0, 0x1f, 0, 0, 0])?;
-    say::text(rt, "stored 4001")?;
-    read(rt, &[1, 1, 0xa1, 0x1f, 0, 0, 0])?;
-    say::text(rt, "80 00")?;
-    read(rt, &[0x80, 0])
+    read(rt, "stored 4000", &[1, 1, 0xa0, 0x1f, 0, 0, 0])?;
+    read(rt, "stored 4001", &[1, 1, 0xa1, 0x1f, 0, 0, 0])?;
+    read(rt, "80 00", &[0x80, 0])
 }
 
 pub fn groups(rt: &impl Print) -> io::Result<()> {
     // 8 in document 01; since document 02's R-2 a third group may follow
-    say::text(rt, "80 80")?;
-    read(rt, &[0x80, 0x80])?;
-    say::text(rt, "80 80 80")?;
-    read(rt, &[0x80, 0x80, 0x80])?;
-    say::text(rt, "80")?;
-    read(rt, &[0x80])?;
-    say::text(rt, "no bytes")?;
-    read(rt, &[])
+    read(rt, "80 80", &[0x80, 0x80])?;
+    read(rt, "80 80 80", &[0x80, 0x80, 0x80])?;
+    read(rt, "80", &[0x80])?;
+    read(rt, "no bytes", &[])
 }
 
 pub fn short_drawings(rt: &impl Print) -> io::Result<()> {
-    say::text(rt, "00")?;
-    read(rt, &[0])?;
-    say::text(rt, "kind 5")?;
-    read(rt, &[1, 5])?;
-    say::text(rt, "side 5")?;
-    read(rt, &[1, 4, 5])
+    read(rt, "00", &[0])?;
+    read(rt, "kind 5", &[1, 5])?;
+    read(rt, "side 5", &[1, 4, 5])
 }
 
 pub fn after_the_last(rt: &impl Print) -> io::Result<()> {
-    say::text(rt, "p equals q")?;
-    read(rt, &[1, 2, 3, 3, 3, 3])?;
-    say::text(rt, "a byte after the last")?;
-    read(rt, &[1, 4, 2, 0])?;
-    say::text(rt, "two objects, room for one")?;
-    read(rt, &[2, 4, 1, 4, 2])
+    read(rt, "p equals q", &[1, 2, 3, 3, 3, 3])?;
+    read(rt, "a byte after the last", &[1, 4, 2, 0])?;
+    read(rt, "two objects, room for one", &[2, 4, 1, 4, 2])
 }
 
 // 512 objects are taken and 513 refused. Every byte after the count is a 4: the side 4, again and again.
@@ -87,31 +81,20 @@ pub fn limits(rt: &impl Print) -> io::Result<()> {
     let mut most = [4u8; FULL];
     most[0] = 0x80;
     most[1] = 4;
-    say::text(rt, "512 objects")?;
-    say::number(rt, store::check_drawing(&most))?;
-    say::end(rt)?;
+    println!(rt; "512 objects {}", refused_by(check_drawing(&most)))?;
     most[0] = 0x81;
-    say::text(rt, "513 objects")?;
-    say::number(rt, store::check_drawing(&most))?;
-    say::end(rt)
+    println!(rt; "513 objects {}", refused_by(check_drawing(&most)))
 }
 
 pub fn writing(rt: &impl Print) -> io::Result<()> {
-    say::text(rt, "write side 3")?;
-    write(rt, &[4, 3, 0, 0, 0, 0])?;
-    say::text(rt, "write nothing")?;
-    write(rt, &[])?;
-    say::text(rt, "write five numbers, seven numbers")?;
-    write(rt, &[4, 3, 0, 0, 0])?;
-    write(rt, &[4, 3, 0, 0, 0, 0, 1])
+    write(rt, "write side 3", &[4, 3, 0, 0, 0, 0])?;
+    write(rt, "write nothing", &[])?;
+    write(rt, "write five numbers, seven numbers", &[4, 3, 0, 0, 0])?;
+    write(rt, "", &[4, 3, 0, 0, 0, 0, 1])
 }
 
 pub fn refused_writing(rt: &impl Print) -> io::Result<()> {
-    say::text(rt, "write kind 9")?;
-    write(rt, &[9, 0, 0, 0, 0, 0])?;
-    say::text(rt, "write a segment in four bytes")?;
-    write(rt, &[1, 0, 0, 1, 1, 0])?;
-    let many = [4i64; TOO_MANY];
-    say::text(rt, "write 513 objects")?;
-    write(rt, &many)
+    write(rt, "write kind 9", &[9, 0, 0, 0, 0, 0])?;
+    write(rt, "write a segment in four bytes", &[1, 0, 0, 1, 1, 0])?;
+    write(rt, "write 513 objects", &[4; TOO_MANY])
 }

@@ -1,121 +1,87 @@
-// Words and numbers on standard output.
-use sheet::{Crossing, Ends, Made, Object, Point, Signed};
-use std::io;
-use store::{Form, Formed};
+// What the calls answer, in words and numbers with a space before each.
+use sheet::refusal::Refusal;
+use sheet::{Crossing, Ends, Object, Point};
+use std::fmt;
 
-pub fn text(rt: &impl Print, words: &str) -> io::Result<()> {
-    rt.print(words)
+// The words for an answer that is no refusal.
+pub trait Words {
+    fn words<W: fmt::Write>(&self, f: &mut fmt::Formatter<W>) -> fmt::Result;
 }
 
-pub fn number(rt: &impl Print, n: i64) -> io::Result<()> {
-    print!(rt; " {n}")
-}
-
-pub fn numbers(rt: &impl Print, list: &[i64]) -> io::Result<()> {
-    for n in list {
-        number(rt, *n)?;
+impl Words for Object {
+    fn words<W: fmt::Write>(&self, f: &mut fmt::Formatter<W>) -> fmt::Result {
+        write!(
+            f,
+            " object {} {} {} {} {} {}",
+            self.kind, self.px, self.py, self.qx, self.qy, self.tag
+        )
     }
-    Ok(())
 }
 
-pub fn count(rt: &impl Print, n: u64) -> io::Result<()> {
-    print!(rt; " {n}")
+impl Words for Point {
+    fn words<W: fmt::Write>(&self, f: &mut fmt::Formatter<W>) -> fmt::Result {
+        write!(
+            f,
+            " point {} {} {} {} {}",
+            self.mx, self.nx, self.my, self.ny, self.w
+        )
+    }
 }
 
-pub fn byte(rt: &impl Print, b: u8) -> io::Result<()> {
-    count(rt, b as u64)
+impl Words for Ends {
+    fn words<W: fmt::Write>(&self, f: &mut fmt::Formatter<W>) -> fmt::Result {
+        self.first.words(f)?;
+        self.last.words(f)
+    }
 }
 
-pub fn end(rt: &impl Print) -> io::Result<()> {
-    text(rt, "\n")
+// Of order, turn and side.
+impl Words for i64 {
+    fn words<W: fmt::Write>(&self, f: &mut fmt::Formatter<W>) -> fmt::Result {
+        write!(f, " sign {self}")
+    }
 }
 
-pub fn refused(rt: &impl Print, n: i64) -> io::Result<()> {
-    text(rt, " refused")?;
-    number(rt, n)?;
-    end(rt)
-}
-
-pub fn point(rt: &impl Print, p: Point) -> io::Result<()> {
-    text(rt, " point")?;
-    number(rt, p.mx)?;
-    number(rt, p.nx)?;
-    number(rt, p.my)?;
-    number(rt, p.ny)?;
-    number(rt, p.w)
-}
-
-pub fn object(rt: &impl Print, o: Object) -> io::Result<()> {
-    text(rt, " object")?;
-    number(rt, o.kind)?;
-    number(rt, o.px)?;
-    number(rt, o.py)?;
-    number(rt, o.qx)?;
-    number(rt, o.qy)?;
-    number(rt, o.tag)
-}
-
-pub fn made(rt: &impl Print, m: Made) -> io::Result<()> {
-    match m {
-        Made::Done(o) => {
-            object(rt, o)?;
-            end(rt)
+impl Words for Crossing {
+    fn words<W: fmt::Write>(&self, f: &mut fmt::Formatter<W>) -> fmt::Result {
+        match self {
+            Crossing::Nothing => f.write_str(" none"),
+            Crossing::Once(p) => p.words(f),
+            Crossing::Many => f.write_str(" many"),
         }
-        Made::Refused(n) => refused(rt, n),
     }
 }
 
-pub fn ends(rt: &impl Print, e: Ends) -> io::Result<()> {
-    match e {
-        Ends::Both(first, last) => {
-            point(rt, first)?;
-            point(rt, last)?;
-            end(rt)
+// What a call answers: the words for it, or the number of its refusal.
+#[derive(Drop)]
+pub struct Said<T>(pub Result<T, Refusal>);
+
+impl<T: Words> fmt::Display for Said<T> {
+    fn fmt<W: fmt::Write>(&self, f: &mut fmt::Formatter<W>) -> fmt::Result {
+        match &self.0 {
+            Ok(answer) => answer.words(f),
+            Err(no) => write!(f, " refused {}", i64::from(*no)),
         }
-        Ends::Refused(n) => refused(rt, n),
     }
 }
 
-pub fn signed(rt: &impl Print, s: Signed) -> io::Result<()> {
-    match s {
-        Signed::Sign(n) => {
-            text(rt, " sign")?;
-            number(rt, n)?;
-            end(rt)
+// The cells of a lent list.
+#[derive(Clone, Copy)]
+pub struct Cells<'a, T>(pub &'a [T]);
+
+impl<T: fmt::Display> fmt::Display for Cells<'_, T> {
+    fn fmt<W: fmt::Write>(&self, f: &mut fmt::Formatter<W>) -> fmt::Result {
+        for cell in self.0 {
+            write!(f, " {cell}")?;
         }
-        Signed::Refused(n) => refused(rt, n),
+        Ok(())
     }
 }
 
-pub fn crossing(rt: &impl Print, c: Crossing) -> io::Result<()> {
-    match c {
-        Crossing::Nothing => {
-            text(rt, " none")?;
-            end(rt)
-        }
-        Crossing::Once(e) => {
-            point(rt, e)?;
-            end(rt)
-        }
-        Crossing::Many => {
-            text(rt, " many")?;
-            end(rt)
-        }
-        Crossing::Refused(n) => refused(rt, n),
+// The number that a call refuses by, 0 where it does not refuse.
+pub fn refused_by<T: Drop>(answer: Result<T, Refusal>) -> i64 {
+    match answer {
+        Ok(_) => 0,
+        Err(no) => no.into(),
     }
-}
-
-fn form(rt: &impl Print, form: Form) -> io::Result<()> {
-    match form {
-        Form::Old => text(rt, " old"),
-        Form::New => text(rt, " new"),
-    }
-}
-
-pub fn formed(rt: &impl Print, formed: Formed) -> io::Result<()> {
-    match formed {
-        Formed::Has(f) => form(rt, f)?,
-        Formed::Refused(no) => number(rt, no)?,
-    }
-    end(rt)
 }

@@ -1,16 +1,24 @@
 -- `say_drawing` answers the status of what was read, or that something did not go.
-use Rattle.std.proofs.Common.{refl, ap, ◌∙◌}
-use Rattle.whole.specs.Tests.{out-ok}
+use Rattle.std.specs.Prelude.{◌≡◌, ℤ, pos, Option, MatchOption, Result, Ok, Err}
+use Rattle.std.specs.Result.{result_err}
+use Rattle.std.proofs.Common.{rules, refl, ap, ◌∙◌}
+use Rattle.whole.specs.Tests.{Fit, out-ok}
+use Rattle.sheet.specs.declared.refusal.Unfilled.{Unfilled}
+use Rattle.sheet.specs.Refused.{unfilled_no}
 use Rattle.store.specs.declared.Read.{Read}
+use Rattle.store.specs.Answers.{ReadSays}
+use Rattle.store.specs.Told.{read_told}
 use Rattle.list.specs.ReadingLaws.{refusal_is, status-is}
 use Rattle.list.proofs.say_drawing.Goals as goal
 
-pub returns-then-refusal-ne0 : goal.returns-then-refusal-ne0
-returns-then-refusal-ne0 g c =
-    let read = ap (λ (r : Read). r.refusal) c.read_drawing-read.ensures.answer ∙ refusal_is _ _ refl in
-    status-is _ _ _ _ (out-ok _ c.struct_told-1.given.0.1 ∙ read) c.status_of-then-refusal-ne0.ensures.answer
+-- the number of what was not read, 0 for what was
+number-told : (r : Result Read Unfilled) (o : Option Unfilled) (n : ℤ) → o ≡ result_err r → MatchOption o (n ≡ pos 0) (λ u. n ≡ unfilled_no u) → n ≡ (read_told r).refusal
+number-told (Ok a) o n e h = rw e at h
+number-told (Err u) o n e h = rw e at h
 
 pub returns : goal.returns
 returns g c =
-    let read = ap (λ (r : Read). r.refusal) c.read_drawing-read.ensures.answer ∙ refusal_is _ _ refl in
-    status-is _ _ _ _ (out-ok _ c.struct_told-1.given.0.1 ∙ read) c.status_of-2.ensures.answer
+    let read = ap (λ (r : ReadSays). r.refusal) c.read_drawing-read.ensures.answer ∙ refusal_is _ _ refl in
+    let number = number-told c.read_drawing-read.result c.err.result c.map_or-refusal.result c.err.ensures.value c.map_or-refusal.ensures in
+    let fit : Fit c.map_or-refusal.result = search rules in
+    status-is c.say_read-sent.result _ _ _ (out-ok _ fit ∙ number ∙ read) c.status_of.ensures

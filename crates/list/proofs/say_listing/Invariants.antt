@@ -1,10 +1,11 @@
--- The invariant: each object so far had at most `most` rows. The measure is how many objects are left.
-use Rattle.std.proofs.Common.{◌-◌, ◌*◌, ◌≤◌}
+-- The invariant: all went, and each object so far had at most `most` rows.
+use Rattle.std.proofs.Common.{◌≡◌, ◌*◌, ◌≤◌, true}
 use Rattle.sheet.specs.Limits.{most}
 use Rattle.list.proofs.say_listing.Given as goal
 
-abbrev pub invariant-loop-went : goal.invariant-loop-went
-invariant-loop-went g l = (l.i ≤ l.objects) × (l.total ≤ most * l.i)
-
-abbrev pub decreases-loop-went : goal.decreases-loop-went
-decreases-loop-went g l = l.objects - l.i
+abbrev pub invariant-loop-i : goal.invariant-loop-i
+invariant-loop-i g l = record {
+  whole : l.out.whole ≡ true;
+  few : l.i-end ≤ most;
+  total : l.total ≤ most * l.i;
+}

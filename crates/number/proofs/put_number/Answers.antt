@@ -1,52 +1,38 @@
--- `put_number` meets its contract: the number's bytes are in cells of their own, and after i turns the first i of them are put, as far as there
--- are cells.
-use mathlib.Core.Path.{◌≡◌, refl, sym, ap, ◌∙◌}
-use Prim.Native.Nat.{ℕ, ◌+◌}
-use native.Mathlib.Omega.{arith}
-use mathlib.Core.Bool.{◌&&◌}
-use lib.Dec.{ltb}
-use lib.ListN.{length, take}
-use lib.Seq.{sets, length-sets, take_all}
-use Rattle.sheet.specs.Lent.{clipped}
+-- `put_number` meets its contract: the number's bytes are in cells of their own. The invariant: those before the next one are put.
+use Rattle.std.proofs.Common.{refl, sym, ap, ◌∙◌, arith, add-one, take-suc, take_all, ℕ, ◌<◌, List, [], ◌∷◌, ◌++◌, length, take, get_or}
+use Rattle.sheet.specs.LentLaws.{wrote_none, wrote-two, wrote_as, wrote-length}
 use Rattle.number.specs.Number.{write_number}
 use Rattle.number.proofs.GroupsLaws.{number-most}
-use Rattle.number.proofs.ReadingLaws.{both-less}
-use Rattle.number.proofs.WritingLaws.{own-bytes, put_next, put-none}
+use Rattle.number.proofs.WritingLaws.{own-bytes}
 use Rattle.number.proofs.put_number.Goals as goal
-use Rattle.number.proofs.put_number.Goals.{then-i-size, else-i-size}
 
 pub write_number-size-requires : goal.write_number-size-requires
 write_number-size-requires c = (c.requires, omega (arith, number-most c.args.n))
 
-pub loop-i-init : goal.loop-i-init
-loop-i-init c = (refl, own-bytes refl c.write_number-size.ensures, omega arith)
+pub slice_bounds-own-end : goal.slice_bounds-own-end
+slice_bounds-own-end c =
+    omega (arith, (own-bytes refl c.write_number-size.ensures).long, number-most c.args.n, wrote-length c.write_number-size.ensures)
 
-pub loop-i-preserved : goal.loop-i-preserved
-loop-i-preserved c =
-    let l = c.loop-i in
-    let d = c.args.out.now in
-    let at = c.args.at in
+pub slice_bounds-b-items-end : goal.slice_bounds-b-items-end
+slice_bounds-b-items-end c =
+    let o = own-bytes refl c.write_number-size.ensures in
+    o.long ∙ sym (ap length o.front)
+
+pub loop-b-init : goal.loop-b-init
+loop-b-init c = wrote_none (omega arith) (omega arith)
+
+pub loop-b-preserved : goal.loop-b-preserved
+loop-b-preserved c =
+    let o = own-bytes refl c.write_number-size.ensures in
     let bytes = write_number c.args.n in
-    let o = l.invariant.1 in
-    let size = c.write_number-size.result in
-    let room = c.room_from-room.result in
-    let same : length l.out ≡ length d = ap length l.invariant.0 ∙ length-sets d at (take l.i bytes) in
-    let is : c.if-i-size.out ≡ sets d at (take (l.i + 1) bytes) =
-    elim c.if-i-size.branch [
-      | then-i-size w ↦ w.out-is ∙ put_next d l.out at l.i bytes l.invariant.0 (omega (arith, o.long, both-less l.i size l.i room w.if-i-size.true))
-          (o.cell l.i (both-less l.i size l.i room w.if-i-size.true).0)
-      | else-i-size w ↦ w.out-is ∙ put-none d l.out at l.i bytes l.invariant.0 room (omega (arith, c.room_from-room.ensures)) same
-          (ap (λ (k : ℕ). ltb l.i k && ltb l.i room) (sym o.long) ∙ w.if-i-size.false)
-    ] in
-    (is, o, omega arith)
+    let i = c.loop-b.b-index in
+    let there : i < length bytes = omega (arith, ap length o.front) in
+    wrote_as (wrote-two c.loop-b.invariant c.put_byte-next.ensures)
+    (ap (λ (l : List ℕ). take i bytes ++ (get_or l i 0 ∷ [])) o.front
+    ∙ sym (take-suc bytes i 0 there)
+    ∙ ap (λ (k : ℕ). take k bytes) (sym (add-one i)))
 
 pub returns : goal.returns
 returns c =
-    let l = c.loop-i in
-    let n = c.args.n in
-    let all = take_all l.i (write_number n) (omega (arith, number-most n)) in
-    record {
-      cells = l.invariant.0 ∙ ap (sets c.args.out.now c.args.at) all;
-      place = c.behind.ensures ∙ ap (λ (k : ℕ). clipped (c.args.at + k)) l.invariant.1.long;
-      lent = omega arith;
-    }
+    let o = own-bytes refl c.write_number-size.ensures in
+    wrote_as c.loop-b.invariant (take_all c.loop-b.b-index (write_number c.args.n) (omega (arith, ap length o.front)))

@@ -1,15 +1,8 @@
--- `put_number` meets its contract: the number's bytes are in cells of their own, and after i turns the first i of them are put, as far as there
--- are cells.
-use mathlib.Core.Path.{◌≡◌}
-use Prim.Native.Nat.{◌-◌, ◌≤◌}
+-- `put_number` meets its contract: the number's bytes are in cells of their own. The invariant: those before the next one are put.
 use lib.ListN.{take}
-use lib.Seq.{sets}
-use Rattle.number.specs.Number.{most_groups, write_number}
-use Rattle.number.proofs.WritingLaws.{Own}
+use Rattle.sheet.specs.Lent.{Wrote}
+use Rattle.number.specs.Number.{write_number}
 use Rattle.number.proofs.put_number.Given as goal
 
-abbrev pub invariant-loop-i : goal.invariant-loop-i
-invariant-loop-i l = (l.out ≡ sets l.initial.out l.at (take l.i (write_number l.n))) × Own l.own l.n l.size × (l.i ≤ most_groups)
-
-abbrev pub decreases-loop-i : goal.decreases-loop-i
-decreases-loop-i l = most_groups - l.i
+abbrev pub invariant-loop-b : goal.invariant-loop-b
+invariant-loop-b l = Wrote l.initial.out l.out l.at l.next (take l.b-index (write_number l.n))

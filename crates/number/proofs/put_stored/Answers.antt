@@ -1,5 +1,4 @@
--- `put_stored` meets its contract: where there is no cell nothing is put; else after i turns the first i numbers are put, each as it is or as far
--- as there are cells.
+-- `put_stored` meets its contract. The invariant: the numbers before the next one are put, each as it is or as far as there are cells.
 use mathlib.Core.Path.{◌≡◌, sym, ap, ◌∙◌}
 use mathlib.Core.Bool.{Bool, true, ◌&&◌}
 use mathlib.Core.List.{List, ◌++◌}
@@ -29,36 +28,38 @@ module _ (numbers : List ℕ) (small : Bool) (room : ℕ) (is : small ≡ all_st
   enough : length (write_numbers numbers) ≤ room
   enough = omega (arith, leb-true (length numbers * most_groups) room said.1, numbers-most numbers)
 
-pub loop-i-init : goal.loop-i-init
+pub loop-n-init : goal.loop-n-init
 unfolding write_numbers
-loop-i-init c = (omega arith, wrote_none (omega arith) (omega arith))
+loop-n-init c = wrote_none (omega arith) (omega arith)
 
 pub write_number-to-requires : goal.write_number-to-requires
 write_number-to-requires c =
-    let l = c.loop-i in
+    let l = c.loop-n in
+    let i = l.n-index in
     let a = c.are_storable in
-    let r = c.room_from-room in
+    let r = c.saturating_sub-room in
     let numbers = c.args.numbers.now in
-    let front = write_numbers (take l.i numbers) in
-    let n = get_or numbers l.i 0 in
-    let small = each numbers a.result r.result a.ensures c.if-direct.true l.i (omega arith) in
+    let front = write_numbers (take i numbers) in
+    let n = get_or numbers i 0 in
+    let small = each numbers a.result r.result a.ensures c.if-direct.true i (omega arith) in
     let room = enough numbers a.result r.result a.ensures c.if-direct.true in
-    let more = ap length (numbers_more numbers l.i (omega arith) ∙ ap (λ (m : ℕ). front ++ write_number m) (number-kept small)) ∙ length-append front (write_number n) in
+    let more = ap length (numbers_more numbers i (omega arith) ∙ ap (λ (m : ℕ). front ++ write_number m) (number-kept small)) ∙ length-append front (write_number n) in
     let fits : c.args.at + length front + length (write_number n) ≤ length c.args.out.now =
-    omega (arith, more, numbers-few numbers (l.i + 1), room, r.ensures, number-some n) in
-    let here : l.to ≡ c.args.at + length front = l.invariant.1.place ∙ clipped-is (omega arith) in
-    (small, omega (arith, here, wrote-length l.invariant.1))
+    omega (arith, more, numbers-few numbers (i + 1), room, r.ensures, number-some n) in
+    let here : l.to ≡ c.args.at + length front = l.invariant.place ∙ clipped-is (omega arith) in
+    (small, omega (arith, here, wrote-length l.invariant))
 
-pub loop-i-preserved : goal.loop-i-preserved
-loop-i-preserved c =
-    let l = c.loop-i in
+pub loop-n-preserved : goal.loop-n-preserved
+loop-n-preserved c =
+    let l = c.loop-n in
+    let i = l.n-index in
     let a = c.are_storable in
     let numbers = c.args.numbers.now in
-    let one : Wrote l.out c.if-direct.out l.to c.if-direct.to (write_number (min (get_or numbers l.i 0) largest_number)) =
+    let one : Wrote l.out c.if-direct.out l.to c.if-direct.to (write_number (min (get_or numbers i 0) largest_number)) =
     elim c.if-direct.branch [
       | then-direct w ↦
-          let small = each numbers a.result c.room_from-room.result a.ensures w.if-direct.true l.i (omega arith) in
+          let small = each numbers a.result c.saturating_sub-room.result a.ensures w.if-direct.true i (omega arith) in
           wrote_as (wrote-named w.write_number-to.ensures w.out-is w.to-is) (ap write_number (sym (number-kept small)))
       | else-direct w ↦ wrote_as (wrote-named w.put_number-to.ensures w.out-is w.to-is) (ap write_number w.clip.ensures)
     ] in
-    (omega arith, wrote_as (wrote-two l.invariant.1 one) (sym (numbers_more numbers l.i (omega arith))))
+    wrote_as (wrote-two l.invariant one) (sym (numbers_more numbers i (omega arith)))

@@ -1,30 +1,41 @@
--- `put_all` meets its contract. The invariant: the first k rows are written.
-use mathlib.Core.Path.{◌≡◌, sym, ap}
-use Prim.Native.Nat.{ℕ, ◌+◌, ◌*◌, ◌-◌}
+-- `put_all` meets its contract: each row that the iterator gives is the next one, and at its end less than a row is left.
+use mathlib.Core.Path.{sym, ap, ◌∙◌}
 use native.Mathlib.Omega.{arith}
-use lib.ListN.{take, drop}
-use Rattle.sheet.specs.LentLaws.{wrote_none, wrote-two, wrote_as, wrote-length}
-use Rattle.sheet.specs.Lists.{row_width}
-use Rattle.rowtext.specs.Text.{row_text, rows_to}
-use Rattle.rowtext.specs.TextLaws.{rows_more}
+use lib.ListN.{length}
+use Rattle.std.proofs.Common.{rules}
+use Rattle.std.proofs.lemmas.List.{length_push}
+use Rattle.sheet.specs.LentLaws.{wrote_none, wrote-two, wrote_as}
+use Rattle.rowtext.specs.Text.{row_text, rows_to, rows_text}
+use Rattle.rowtext.specs.TextLaws.{rows_more, next-row, last-row}
 use Rattle.rowtext.proofs.put_all.Goals as goal
 
-pub loop-k-init : goal.loop-k-init
+pub loop-row-init : goal.loop-row-init
 unfolding rows_to
-loop-k-init c = (omega arith, wrote_none (omega arith) (omega arith))
+loop-row-init c = record {
+  width = search rules;
+  within = omega arith;
+  left = search rules;
+  written = wrote_none (omega arith) (omega arith);
+}
 
-pub loop-k-preserved : goal.loop-k-preserved
-loop-k-preserved c =
-    let list = c.args.list.now in
-    let k = c.loop-k.k in
-    let wide : k * row_width + row_width - k * row_width ≡ row_width = omega arith in
-    let row = ap (λ (n : ℕ). row_text (take n (drop (k * row_width) list))) wide in
-    (omega arith, wrote_as (wrote-two c.loop-k.invariant.1 (wrote_as c.put_row-next.ensures row)) (sym (rows_more list k)))
-
-pub shape_of-out : goal.shape_of-out
-shape_of-out c = wrote-length c.loop-k.invariant.1
+pub loop-row-preserved : goal.loop-row-preserved
+loop-row-preserved c =
+    let list = c.args.rows.now in
+    let l = c.loop-row in
+    let next = c.in-Some.ensures.steps in
+    let one = length_push l.yielded c.in-Some.row in
+    let row = next-row list (length l.yielded) (sym l.invariant.left ∙ next.1.0) (next.1.1 ∙ l.invariant.width) in
+    record {
+      width = next.0 ∙ l.invariant.width;
+      within = simp one row.2;
+      left = simp one row.1;
+      written = simp one (wrote_as (wrote-two l.invariant.written (wrote_as c.put_row-next.ensures (ap row_text row.0))) (sym (rows_more list _)));
+    }
 
 pub returns : goal.returns
+unfolding rows_text
 returns c =
-    let done : c.loop-k.k ≡ c.args.rows = omega arith in
-    wrote_as c.loop-k.invariant.1 (ap (rows_to c.args.list.now) done)
+    let list = c.args.rows.now in
+    let l = c.loop-row in
+    let all = last-row list (length l.yielded) l.invariant.within (omega (arith, c.in-None.ensures.steps.1, ap length l.invariant.left)) in
+    wrote_as l.invariant.written (ap (rows_to list) all)

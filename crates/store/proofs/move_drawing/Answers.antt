@@ -1,44 +1,36 @@
 -- `move_drawing` meets its contract: what is read into a list with room for every drawing is written.
-use mathlib.Core.Path.{◌≡◌, refl, ap, ◌∙◌}
+use mathlib.Core.Path.{refl, sym, ap, ◌∙◌}
 use mathlib.Core.List.{List}
-use Prim.Native.Nat.{ℕ, ◌-◌}
 use native.Mathlib.Omega.{arith}
 use lib.IntN.{ℤ}
-use lib.ListN.{take, drop}
-use Rattle.sheet.specs.AnswersLaws.{not_refused, refused-first}
-use Rattle.sheet.specs.LentLaws.{refused}
-use Rattle.store.specs.Stored.{read_drawing, move_refusal}
+use Rattle.std.proofs.lemmas.Grind.{common_steps}
 use Rattle.store.specs.Answers.{write_answer, write_into}
-use Rattle.store.specs.AnswersLaws.{move-ends}
-use Rattle.store.proofs.RoomyLaws.{roomy, moves-as-written}
+use Rattle.store.proofs.RoomyLaws.{roomy, moves-refused, moves-as-written}
 use Rattle.store.proofs.move_drawing.Goals as goal
 
-pub returns-then-no-ne0 : goal.returns-then-no-ne0
-unfolding move_refusal
-returns-then-no-ne0 c =
-    let a = c.args in
-    let r = c.read_drawing-read in
-    let read = roomy a.bytes.now _ refl r.ensures.answer r.ensures.cells in
-    let both = move-ends a.form a.bytes.now a.out.now
-    (refused (omega arith) (refused-first _ read.refusal c.if-no-ne0.true) c.if-no-ne0.true) in
+pub returns-in_err-read : goal.returns-in_err-read
+returns-in_err-read c =
+    let both = moves-refused c.args.form c.args.bytes.now c.args.out.now _ _ _ refl c.in_err-read.ensures.answer c.from_residual.ensures.1 in
     record { answer = both.0; cells = both.1 }
 
 pub slice_bounds-write_drawing-end : goal.slice_bounds-write_drawing-end
 slice_bounds-write_drawing-end c =
-    let r = c.read_drawing-read in
-    let read = roomy c.args.bytes.now _ refl r.ensures.answer r.ensures.cells in
-    omega (arith, read.few (not_refused (omega arith) read.refusal c.if-no-ne0.false))
+    let read = roomy c.args.bytes.now _ refl c.in_ok-read.ensures.answer c.in_ok-read.ensures.cells in
+    let few = read.few (sym read.refusal) in
+    grind (arith, common_steps, few)
+
+pub slice_bounds-list-end : goal.slice_bounds-list-end
+slice_bounds-list-end c =
+    let read = roomy c.args.bytes.now _ refl c.in_ok-read.ensures.answer c.in_ok-read.ensures.cells in
+    omega (arith, read.few (sym read.refusal))
 
 pub returns : goal.returns
 returns c =
     let a = c.args in
     let lent = a.out.now in
-    let r = c.read_drawing-read in
-    let read = roomy a.bytes.now _ refl r.ensures.answer r.ensures.cells in
-    let fine = not_refused (omega arith) read.refusal c.if-no-ne0.false in
-    let n : r.result.length - 0 ≡ r.result.length = omega arith in
-    let handed : take (r.result.length - 0) (drop 0 r.new.out) ≡ (read_drawing a.bytes.now).objects =
-    ap (λ (k : ℕ). take k r.new.out) n ∙ read.front fine in
+    let read = roomy a.bytes.now _ refl c.in_ok-read.ensures.answer c.in_ok-read.ensures.cells in
+    let fine = sym read.refusal in
+    let handed = read.front fine in
     let w = c.write_drawing.ensures in
     let same = moves-as-written a.form a.bytes.now lent fine in
     record {

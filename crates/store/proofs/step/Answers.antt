@@ -1,28 +1,17 @@
--- `step` meets its contract: a reader that has begun goes on; else the form and the count are read first.
-use native.Mathlib.Omega.{arith}
-use mathlib.Core.Path.{sym, ap, ◌∙◌}
-use lib.IntN.{ℤ}
-use Rattle.whole.specs.Tests.{out-ok}
-use Rattle.store.specs.declared.Item.TheVariants.{Refused}
-use Rattle.store.specs.Reader.{step_to, step_of}
-use Rattle.store.specs.StepLaws.{head-refused, head-taken}
+-- `step` meets its contract: a reader that is in the objects goes on; else the form and the count are read first.
+use mathlib.Core.Path.{sym, ◌∙◌}
+use Rattle.store.specs.StepLaws.{step-in, head-refused, head-taken}
+use Rattle.store.proofs.SureLaws.{rest-within, sure-head}
 use Rattle.store.proofs.step.Goals as goal
 
-pub returns-then-begun : goal.returns-then-begun
-unfolding step_of
-returns-then-begun c = simp c.if-begun.true c.step_from.ensures
+pub returns-in-In : goal.returns-in-In
+returns-in-In c = c.step_from.ensures ∙ sym (step-in c.args.bytes.now c.in-In.is)
 
-pub returns-then-no-ne0 : goal.returns-then-no-ne0
-returns-then-no-ne0 c =
-    let a = c.args in
-    let r = c.read_head-head in
-    ap (λ (z : ℤ). step_to (Refused z) a.place) (out-ok r.result.refusal (omega arith))
-    ∙ sym (head-refused a.bytes.now a.place r.ensures.told (omega arith) c.if-begun.false c.if-no-ne0.true)
+pub overflow_sub-bytes : goal.overflow_sub-bytes
+overflow_sub-bytes c = rest-within (sure-head c.args.bytes.now) c.in-Ok.ensures.told
 
-pub returns : goal.returns
-returns c =
-    let a = c.args in
-    let r = c.read_head-head in
-    c.step_from-2.ensures
-    ∙ sym (head-taken a.bytes.now a.place r.ensures.told (omega arith)
-    c.if-begun.false c.if-no-ne0.false)
+pub returns-in-Err : goal.returns-in-Err
+returns-in-Err c = sym (head-refused c.args.bytes.now c.in_default.is c.in-Err.ensures.told)
+
+pub returns-in-Ok : goal.returns-in-Ok
+returns-in-Ok c = c.step_from-in-Ok.ensures ∙ sym (head-taken c.args.bytes.now c.in_default.is c.in-Ok.ensures.told)

@@ -1,7 +1,7 @@
 -- `gcd` meets its contract. The invariant: what is a greatest common divisor of x and y is one of a and b. The measure is y.
 use mathlib.Core.Path.{◌≡◌, sym, subst}
 use mathlib.Core.Logic.{◌⊎◌, inl, inr}
-use Prim.Native.Nat.{ℕ, ◌-◌, ◌%◌, ◌<◌}
+use Prim.Native.Nat.{ℕ, ◌-◌, ◌%◌, ◌<◌, min}
 use native.Mathlib.Nat.{mod-lt}
 use native.Mathlib.Omega.{arith}
 use Rattle.whole.specs.Divisor.{IsGcd}
@@ -13,6 +13,10 @@ step : (x y r g : ℕ) → 0 < y → (r ≡ x % y) ⊎ (r ≡ y - x % y) → IsG
 step x y r g h (inl e) k = gcd-step (subst (λ (z : ℕ). IsGcd y z g) e k)
 step x y r g h (inr e) k = gcd-lack h (subst (λ (z : ℕ). IsGcd y z g) e k)
 
+-- the least of two is one of them
+less : (r s : ℕ) {m : ℕ} → m ≡ min r s → (m ≡ r) ⊎ (m ≡ s)
+less r s {m} e = grind (arith, e)
+
 pub loop-y-init : goal.loop-y-init
 loop-y-init c = λ g h. h
 
@@ -22,19 +26,16 @@ nonzero_rem-rest c = omega arith
 pub overflow_sub-lack : goal.overflow_sub-lack
 overflow_sub-lack c = let l = mod-lt c.loop-y.x {m = c.loop-y.y} (omega arith) in omega arith
 
-pub least-y-requires : goal.least-y-requires
-least-y-requires c = tt
-
 pub loop-y-smaller : goal.loop-y-smaller
 loop-y-smaller c =
     let l = mod-lt c.loop-y.x {m = c.loop-y.y} (omega arith) in
-    omega (arith, c.least-y.ensures)
+    omega (arith, c.min-y.ensures)
 
 pub loop-y-preserved : goal.loop-y-preserved
 loop-y-preserved c =
     λ g h.
     let at = c.loop-y in
-    at.invariant g (step at.x at.y c.least-y.result g (omega arith) c.least-y.ensures.fact h)
+    at.invariant g (step at.x at.y c.min-y.result g (omega arith) (less _ _ c.min-y.ensures) h)
 
 pub returns-then-y-eq1 : goal.returns-then-y-eq1
 returns-then-y-eq1 c =

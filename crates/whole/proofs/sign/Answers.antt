@@ -1,21 +1,18 @@
--- `sign` meets its contract: each branch's test is an order or an equation of ℤ, which fixes the sign.
-use mathlib.Core.Path.{sym}
-use Rattle.whole.specs.Order.{lt_of_le_ne}
-use Rattle.whole.specs.SignLaws.{sgn-neg, sgn-pos, sgn-zero}
-use Rattle.whole.specs.Bound.{fits64, w-pos}
-use Rattle.whole.specs.Tests.{lt-taken, lt-left, eq-left, lit-taken}
+-- `sign` meets its contract: std's sign of a number is the paper's.
+use mathlib.Core.Path.{◌≡◌, refl, ap, ◌∙◌}
+use Prim.Native.Nat.{suc, zero}
+use native.Mathlib.Omega.{arith}
+use lib.IntN.{ℤ, pos, negsuc}
+use Rattle.std.specs.Int.{int_signum}
+use Rattle.whole.specs.Sign.{sgn}
+use Rattle.whole.specs.Tests.{out-is, gave}
 use Rattle.whole.proofs.sign.Goals as goal
 
-pub returns-then-x-lt0 : goal.returns-then-x-lt0
-returns-then-x-lt0 c = sym (sgn-neg (lt-taken c.ranges.x (fits64 (w-pos 0) tt) c.if-x-lt0.true))
-
-pub returns-then-x-eq0 : goal.returns-then-x-eq0
-returns-then-x-eq0 c = rw (lit-taken 0 tt c.ranges.x c.if-x-eq0.true) (sym sgn-zero)
+signum-is : (z : ℤ) → int_signum z ≡ sgn z
+unfolding sgn
+signum-is (pos zero) = refl
+signum-is (pos (suc n)) = ap pos (omega arith)
+signum-is (negsuc n) = refl
 
 pub returns : goal.returns
-returns c =
-    sym
-    (sgn-pos
-    (lt_of_le_ne
-    (lt-left c.ranges.x (fits64 (w-pos 0) tt) c.if-x-lt0.false)
-    (λ e. eq-left c.if-x-eq0.false (sym e))))
+returns c = gave c.signum.type_inv (c.signum.ensures.value ∙ ap int_signum (out-is c.ranges.x) ∙ signum-is c.args.x)

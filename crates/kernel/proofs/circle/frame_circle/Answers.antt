@@ -8,7 +8,7 @@ use Rattle.whole.specs.Choice.{or_else}
 use Rattle.whole.specs.ChoiceLaws.{or-sgn}
 use Rattle.whole.specs.Bound.{w-is, w-sgn}
 use Rattle.whole.specs.Ring.{var, lit, ◌⊖◌, ◌⊗◌}
-use Rattle.whole.specs.Flat.{All, none, ◌also◌, need, gives, held, back}
+use Rattle.whole.specs.Flat.{All, none, ◌also◌, need, gives, held}
 use Rattle.sheet.specs.declared.Point.{Point}
 use Rattle.sheet.specs.Figure.{vec}
 use Rattle.sheet.specs.Points.{given}
@@ -16,7 +16,7 @@ use Rattle.sheet.specs.Signs.{turn}
 use Rattle.sheet.specs.Expansions.{pair-side-is}
 use Rattle.sheet.specs.CircleForms.{turns, inner}
 use Rattle.kernel.specs.Forms.{pair_side}
-use Rattle.kernel.proofs.Coordinates.{coordinate-out, lead_is}
+use Rattle.kernel.proofs.Coordinates.{lead_is}
 use Rattle.kernel.proofs.Seen.{ax_e, ay_e, bx_e, by_e, turn_e, inner_e}
 use Rattle.kernel.proofs.circle.frame_circle.Goals as goal
 
@@ -59,8 +59,8 @@ pair_side-requires c =
     let h = c.requires in
     let b = h.0.near in (
       record { bpx = held b (var 2) tt; bpy = held b (var 3) tt; bqx = held b (var 4) tt; bqy = held b (var 5) tt },
-      coordinate-out h.1,
-      coordinate-out h.2,
+      h.1,
+      h.2,
     )
 
 pub overflow_mul-seen : goal.overflow_mul-seen
@@ -78,18 +78,16 @@ returns c =
     let parts : All (1 ∷ 1 ∷ []) (c.sign.result ∷ c.pair_side.result ∷ []) = w-is c.sign.ensures (w-sgn _) also w-is (c.pair_side.ensures ∙ sym (or-sgn _ _)) (w-sgn _) also none in
     let a = c.args in
     let b = c.requires.0.near in
-    let x = c.requires.1 in
-    let y = c.requires.2 in
     let p = vec a.px a.py in
     let q = vec a.qx a.qy in
     let r = vec a.sx a.sy in
-    let u : Point = record { mx = a.mx; nx = a.nx; my = a.my; ny = a.ny; w = a.w } in
+    let u : Point = a.u in
     let side = pair-side-is q r u in
     let j = c.sign.ensures ∙ ap sgn (gives b inner_e tt) in
     let t =
     c.pair_side.ensures
     ∙ (λ i. pair_side (gives b (var 2) tt i) (gives b (var 3) tt i) (gives b (var 4) tt i) (gives b (var 5) tt i)
-    (back x.bm tt i) (back x.bn tt i) (back y.bm tt i) (back y.bn tt i) (back y.bw tt i))
+    u.mx u.nx u.my u.ny u.w)
     ∙ sym side
     in
     lead_is c.lead.type_inv c.lead.ensures (gives b turn_e tt)

@@ -1,19 +1,18 @@
 -- `divide` meets its contract: the divisor is above 0, and each quotient is the number's; where it is 1 that is the number itself.
 use mathlib.Core.Path.{◌≡◌, sym, ◌∙◌, ap, ap₂, subst}
-use mathlib.Core.List.{[], ◌∷◌}
 use Prim.Native.Nat.{ℕ, ◌<◌, ◌≤◌}
 use lib.IntN.{ℤ, pos}
 use lib.Signed.{quot_z}
-use mir.Syntax.{w64}
-use mir.Val.{SFits}
-use Rattle.whole.specs.Divisor.{gcd_of}
 use Rattle.whole.specs.DivisorLaws.{quot-one}
 use Rattle.whole.specs.Flat.{back, within-out}
 use Rattle.whole.specs.Within.{Within}
-use Rattle.whole.specs.Tests.{out, out-is, gave}
-use Rattle.sheet.specs.Points.{divided}
-use Rattle.kernel.specs.Bounds.{PartBounds}
+use Rattle.whole.specs.Tests.{out, gave}
+use Rattle.whole.specs.Bound.{fits64}
+use Rattle.sheet.specs.declared.Point.{Point}
+use Rattle.sheet.specs.Points.{divisor, divided}
+use Rattle.kernel.specs.Bounds.{PartBounds, Raw}
 use Rattle.kernel.specs.Forms.{divisor-bounds}
+use Rattle.kernel.proofs.Handed.{by-five, point_of, point_out}
 use Rattle.kernel.proofs.divide.divide.Goals as goal
 
 -- of each of the five numbers, where g is found to be the common divisor k: what `part` asks, and what it gives
@@ -25,57 +24,48 @@ part-asks e d h =
 part_gives : {g k : ℕ} {n : ℤ} → g ≡ k → Within 64000000000 n → quot_z (out n) (pos g) ≡ quot_z n (pos k)
 part_gives e h = ap₂ (λ (z : ℤ) (g : ℕ). quot_z z (pos g)) (back h tt) e
 
--- where the divisor is 1, each number as it came
-kept : {g k : ℕ} {n : ℤ} → g ≡ k → g ≡ 1 → SFits w64 n → out n ≡ quot_z n (pos k)
-kept {n = n} e one f = out-is f ∙ sym (quot-one n) ∙ ap (λ (g : ℕ). quot_z n (pos g)) (sym one ∙ e)
+-- the divisor of the numbers as they are handed on
+found : {p : Point} {g : ℕ} → Raw p.mx p.nx p.my p.ny p.w → g ≡ divisor (point_out p) → g ≡ divisor p
+found {p} r e =
+    e ∙ ap divisor (by-five (fits64 r.bmx tt) (fits64 r.bnx tt) (fits64 r.bmy tt) (fits64 r.bny tt) (fits64 r.bw tt) point_of)
 
-found : {mx nx my ny w : ℤ} (g : ℕ) → SFits w64 mx → SFits w64 nx → SFits w64 my → SFits w64 ny → SFits w64 w
-    → g ≡ gcd_of (out mx ∷ out nx ∷ out my ∷ out ny ∷ out w ∷ []) → g ≡ gcd_of (mx ∷ nx ∷ my ∷ ny ∷ w ∷ [])
-found g mx nx my ny w e = simp (e, out-is, mx, nx, my, ny, w)
+-- where the divisor is 1, each number as it came
+kept : {g k : ℕ} {n : ℤ} → g ≡ k → g ≡ 1 → n ≡ quot_z n (pos k)
+kept {n = n} e one = sym (quot-one n) ∙ ap (λ (g : ℕ). quot_z n (pos g)) (sym one ∙ e)
 
 pub returns-then-g-eq1 : goal.returns-then-g-eq1
 unfolding divided
 returns-then-g-eq1 c =
-    let e = found c.divisor-g.result c.ranges.mx c.ranges.nx c.ranges.my c.ranges.ny c.ranges.w c.divisor-g.ensures in
+    let p = c.args.p in
+    let e = found {p = c.args.p} c.requires c.divisor-g.ensures in
     let one = c.if-g-eq1.true in
-    let f = c.ranges in
     λ i. record {
-      mx = kept e one f.mx i;
-      nx = kept e one f.nx i;
-      my = kept e one f.my i;
-      ny = kept e one f.ny i;
-      w = kept e one f.w i;
+      mx = kept {n = p.mx} e one i;
+      nx = kept {n = p.nx} e one i;
+      my = kept {n = p.my} e one i;
+      ny = kept {n = p.ny} e one i;
+      w = kept {n = p.w} e one i;
     }
 
 pub part-mx-requires : goal.part-mx-requires
-part-mx-requires c =
-    let e = found c.divisor-g.result c.ranges.mx c.ranges.nx c.ranges.my c.ranges.ny c.ranges.w c.divisor-g.ensures in
-    part-asks e (divisor-bounds c.requires) c.requires.bmx
+part-mx-requires c = part-asks (found {p = c.args.p} c.requires c.divisor-g.ensures) (divisor-bounds c.requires) c.requires.bmx
 
 pub part-nx-requires : goal.part-nx-requires
-part-nx-requires c =
-    let e = found c.divisor-g.result c.ranges.mx c.ranges.nx c.ranges.my c.ranges.ny c.ranges.w c.divisor-g.ensures in
-    part-asks e (divisor-bounds c.requires) c.requires.bnx
+part-nx-requires c = part-asks (found {p = c.args.p} c.requires c.divisor-g.ensures) (divisor-bounds c.requires) c.requires.bnx
 
 pub part-my-requires : goal.part-my-requires
-part-my-requires c =
-    let e = found c.divisor-g.result c.ranges.mx c.ranges.nx c.ranges.my c.ranges.ny c.ranges.w c.divisor-g.ensures in
-    part-asks e (divisor-bounds c.requires) c.requires.bmy
+part-my-requires c = part-asks (found {p = c.args.p} c.requires c.divisor-g.ensures) (divisor-bounds c.requires) c.requires.bmy
 
 pub part-ny-requires : goal.part-ny-requires
-part-ny-requires c =
-    let e = found c.divisor-g.result c.ranges.mx c.ranges.nx c.ranges.my c.ranges.ny c.ranges.w c.divisor-g.ensures in
-    part-asks e (divisor-bounds c.requires) c.requires.bny
+part-ny-requires c = part-asks (found {p = c.args.p} c.requires c.divisor-g.ensures) (divisor-bounds c.requires) c.requires.bny
 
 pub part-w-requires : goal.part-w-requires
-part-w-requires c =
-    let e = found c.divisor-g.result c.ranges.mx c.ranges.nx c.ranges.my c.ranges.ny c.ranges.w c.divisor-g.ensures in
-    part-asks e (divisor-bounds c.requires) c.requires.bw
+part-w-requires c = part-asks (found {p = c.args.p} c.requires c.divisor-g.ensures) (divisor-bounds c.requires) c.requires.bw
 
 pub returns : goal.returns
 unfolding divided
 returns c =
-    let e = found c.divisor-g.result c.ranges.mx c.ranges.nx c.ranges.my c.ranges.ny c.ranges.w c.divisor-g.ensures in
+    let e = found {p = c.args.p} c.requires c.divisor-g.ensures in
     let mx = c.part-mx in
     let nx = c.part-nx in
     let my = c.part-my in

@@ -1,29 +1,27 @@
 -- `flat_end` meets its contract: dx is sx |dx|, and the five numbers are within what `divide` asks.
 use mathlib.Core.Path.{◌≡◌, sym, ◌∙◌, ap, subst}
-use mathlib.Core.List.{[], ◌∷◌}
 use lib.IntN.{ℤ, pos, ◌*ℤ◌}
 use lib.Signed.{◌<ℤ◌}
 use Rattle.whole.specs.Sign.{sgn}
 use Rattle.whole.specs.Ring.{var, ◌⊗◌}
-use Rattle.whole.specs.Flat.{All, none, ◌also◌, need, gives, held, within-out}
-use Rattle.whole.specs.Bound.{w-is, w-lit, w-pos, w-sgn, w-size}
+use Rattle.whole.specs.Flat.{need, gives, held, within-out}
+use Rattle.whole.specs.Bound.{w-is, w-lit, w-pos, w-size}
 use Rattle.whole.specs.Tests.{out, out-is, gave}
 use Rattle.sheet.specs.Points.{size, divided}
 use Rattle.kernel.specs.Forms.{flat-is}
+use Rattle.kernel.proofs.Ahead.{size-fits, signed-k}
 use Rattle.kernel.proofs.far.flat_end.Goals as goal
 
 pub abs-w-requires : goal.abs-w-requires
-abs-w-requires c = within-out c.requires.direction.bdx tt
+abs-w-requires c = size-fits c.requires.direction.bdx
 
 pub overflow_mul-ny : goal.overflow_mul-ny
-overflow_mul-ny c =
-    let factors : All (1 ∷ 16000000 ∷ []) (c.sign-sx.result ∷ c.args.k ∷ []) = w-is c.sign-sx.ensures (w-sgn _) also c.requires.direction.bk also none in
-    need factors (var 0 ⊗ var 1) tt
+overflow_mul-ny c = need (signed-k _ c.sign-sx.ensures c.requires.direction.bk) (var 0 ⊗ var 1) tt
 
 pub divide-requires : goal.divide-requires
 divide-requires c =
-    let factors : All (1 ∷ 16000000 ∷ []) (c.sign-sx.result ∷ c.args.k ∷ []) = w-is c.sign-sx.ensures (w-sgn _) also c.requires.direction.bk also none in
-    let wide : out c.abs-w.result ≡ size c.args.dx = gave c.abs-w.type_inv c.abs-w.ensures ∙ ap size (out-is c.ranges.dx) in
+    let factors = signed-k _ c.sign-sx.ensures c.requires.direction.bk in
+    let wide : out c.abs-w.result ≡ size c.args.dx = gave c.abs-w.type_inv c.abs-w.ensures.value ∙ ap size (out-is c.ranges.dx) in
     record {
       bmx = w-lit (within-out c.requires.direction.bdx tt) tt;
       bnx = w-lit (w-pos 0) tt;
@@ -35,9 +33,9 @@ divide-requires c =
 
 pub returns : goal.returns
 returns c =
-    let factors : All (1 ∷ 16000000 ∷ []) (c.sign-sx.result ∷ c.args.k ∷ []) = w-is c.sign-sx.ensures (w-sgn _) also c.requires.direction.bk also none in
+    let factors = signed-k _ c.sign-sx.ensures c.requires.direction.bk in
     let sign-is : c.sign-sx.result ≡ sgn c.args.dx = c.sign-sx.ensures ∙ ap sgn (out-is c.ranges.dx) in
-    let wide : out c.abs-w.result ≡ size c.args.dx = gave c.abs-w.type_inv c.abs-w.ensures ∙ ap size (out-is c.ranges.dx) in
+    let wide : out c.abs-w.result ≡ size c.args.dx = gave c.abs-w.type_inv c.abs-w.ensures.value ∙ ap size (out-is c.ranges.dx) in
     let n = gives factors (var 0 ⊗ var 1) tt ∙ ap (λ (z : ℤ). z *ℤ c.args.k) sign-is in
     c.divide.ensures
     ∙ ap divided ((λ i. record { mx = out-is c.ranges.dx i; nx = pos 0; my = out-is c.ranges.dy i; ny = n i; w = wide i }) ∙ sym (flat-is c.args.dx c.args.dy c.args.k))

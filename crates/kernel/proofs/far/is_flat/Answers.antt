@@ -1,7 +1,6 @@
 -- `is_flat` meets its contract: sizes and signs are those of dx and dy, and their product with k fits.
 use mathlib.Core.Path.{◌≡◌, ◌∙◌, ap, ap₂}
 use mathlib.Core.Bool.{◌||◌, ◌&&◌}
-use mathlib.Core.List.{[], ◌∷◌}
 use lib.Dec.{eqb}
 use lib.IntN.{ℤ, pos, ◌*ℤ◌}
 use lib.Signed.{lt_z, le_z}
@@ -9,42 +8,33 @@ use mir.Syntax.{w64}
 use mir.Val.{of_z}
 use Rattle.whole.specs.Sign.{sgn}
 use Rattle.whole.specs.Ring.{var, ◌⊗◌}
-use Rattle.whole.specs.Flat.{All, none, ◌also◌, need, gives, within-out}
+use Rattle.whole.specs.Flat.{◌also◌, need, gives}
 use Rattle.whole.specs.Bound.{w-is, w-sgn}
 use Rattle.whole.specs.Flag.{eq_z}
 use Rattle.whole.specs.Tests.{eq_flag, fits-ok, out-is, out-ok}
 use Rattle.sheet.specs.Points.{size}
+use Rattle.kernel.proofs.Ahead.{size-fits, signed-k}
 use Rattle.kernel.proofs.far.is_flat.Goals as goal
 
 pub abs-across-requires : goal.abs-across-requires
-abs-across-requires c = within-out c.requires.bdx tt
+abs-across-requires c = size-fits c.requires.bdx
 
 pub abs-up-requires : goal.abs-up-requires
-abs-up-requires c = within-out c.requires.bdy tt
+abs-up-requires c = size-fits c.requires.bdy
 
 pub overflow_mul-tie : goal.overflow_mul-tie
-overflow_mul-tie c =
-    let signs : All (1 ∷ 1 ∷ 16000000 ∷ []) (c.sign-sx.result ∷ c.sign-sy.result ∷ c.args.k ∷ []) =
-    w-is c.sign-sx.ensures (w-sgn _) also w-is c.sign-sy.ensures (w-sgn _)
-    also c.requires.bk also none in
-    need signs (var 0 ⊗ var 1) tt
+overflow_mul-tie c = need (w-is c.sign-sx.ensures (w-sgn _) also signed-k _ c.sign-sy.ensures c.requires.bk) (var 0 ⊗ var 1) tt
 
 pub overflow_mul-tie-2 : goal.overflow_mul-tie-2
-overflow_mul-tie-2 c =
-    let signs : All (1 ∷ 1 ∷ 16000000 ∷ []) (c.sign-sx.result ∷ c.sign-sy.result ∷ c.args.k ∷ []) =
-    w-is c.sign-sx.ensures (w-sgn _) also w-is c.sign-sy.ensures (w-sgn _)
-    also c.requires.bk also none in
-    need signs (var 0 ⊗ var 1 ⊗ var 2) tt
+overflow_mul-tie-2 c = need (w-is c.sign-sx.ensures (w-sgn _) also signed-k _ c.sign-sy.ensures c.requires.bk) (var 0 ⊗ var 1 ⊗ var 2) tt
 
 pub returns : goal.returns
 returns c =
-    let signs : All (1 ∷ 1 ∷ 16000000 ∷ []) (c.sign-sx.result ∷ c.sign-sy.result ∷ c.args.k ∷ []) =
-    w-is c.sign-sx.ensures (w-sgn _) also w-is c.sign-sy.ensures (w-sgn _)
-    also c.requires.bk also none in
+    let signs = w-is c.sign-sx.ensures (w-sgn _) also signed-k _ c.sign-sy.ensures c.requires.bk in
     let x = c.abs-across in
     let y = c.abs-up in
-    let across : x.result ≡ size c.args.dx = x.ensures ∙ ap size (out-is c.ranges.dx) in
-    let up : y.result ≡ size c.args.dy = y.ensures ∙ ap size (out-is c.ranges.dy) in
+    let across : x.result ≡ size c.args.dx = x.ensures.value ∙ ap size (out-is c.ranges.dx) in
+    let up : y.result ≡ size c.args.dy = y.ensures.value ∙ ap size (out-is c.ranges.dy) in
     let flag : eqb (of_z w64 x.result) (of_z w64 y.result) ≡ eq_z (size c.args.dx) (size c.args.dy) =
     eq_flag (fits-ok x.result x.type_inv) (fits-ok y.result y.type_inv) ∙ ap₂ eq_z across up
     in

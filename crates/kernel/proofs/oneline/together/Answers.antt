@@ -12,8 +12,9 @@ use Rattle.whole.specs.Flag.{eq_z}
 use Rattle.whole.specs.Tests.{out, out-is, lit-flag, Fit, gave}
 use Rattle.sheet.specs.Crossing.{dot}
 use Rattle.sheet.specs.Figure.{Vec, vec, ◌⇀◌}
+use Rattle.sheet.specs.Answers.{meeting_numbers}
 use Rattle.kernel.specs.Stretches.{far, together-alike, together-opposed}
-use Rattle.kernel.proofs.Eight.{dx_e, dy_e, fx_e, fy_e, say}
+use Rattle.kernel.proofs.Eight.{dx_e, dy_e, fx_e, fy_e}
 use Rattle.kernel.proofs.oneline.together.Goals as goal
 
 -- the inner product of d with the place of the locals i and j, and with f
@@ -95,7 +96,7 @@ returns-then-alike-gt0 c =
     let one = c.pick-low in
     let two = c.pick-high in
     c.overlap.ensures
-    ∙ ap say (together-alike
+    ∙ ap meeting_numbers (together-alike
     c.args.ka c.args.px c.args.py c.args.qx c.args.qy
     c.args.kb c.args.rx c.args.ry c.args.sx c.args.sy c.requires
     lo hi (λ i. vec (out-is c.ranges.px i) (out-is c.ranges.py i))
@@ -114,7 +115,7 @@ returns c =
     let one = c.pick-low-2 in
     let two = c.pick-high-2 in
     c.overlap-2.ensures
-    ∙ ap say (together-opposed
+    ∙ ap meeting_numbers (together-opposed
     c.args.ka c.args.px c.args.py c.args.qx c.args.qy
     c.args.kb c.args.rx c.args.ry c.args.sx c.args.sy c.requires
     lo hi (λ i. vec (out-is c.ranges.px i) (out-is c.ranges.py i))

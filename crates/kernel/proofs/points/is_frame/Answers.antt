@@ -4,13 +4,13 @@ use mathlib.Core.Bool.{true, ◌||◌, ◌&&◌}
 use native.Mathlib.Omega.{arith}
 use lib.Dec.{T}
 use lib.IntN.{ℤ, pos, nat_abs}
-use lib.Signed.{non_neg, ◌<ℤ◌}
+use lib.Signed.{non_neg}
 use mir.Syntax.{w64}
 use mir.Val.{Fits}
+use Rattle.std.proofs.Common.{rules}
 use Rattle.whole.specs.Order.{<-≤}
 use Rattle.whole.specs.SignLaws.{nn-size}
-use Rattle.whole.specs.Bound.{of-fits}
-use Rattle.whole.specs.Tests.{out-is}
+use Rattle.whole.specs.Tests.{out}
 use Rattle.sheet.specs.declared.Point.{Point}
 use Rattle.sheet.specs.Points.{edge, in_square, narrow, frame}
 use Rattle.sheet.specs.PointsLaws.{narrow-is}
@@ -26,33 +26,28 @@ frame-rest p h = simp h
 
 pub returns-then-not-is_narrow : goal.returns-then-not-is_narrow
 unfolding frame
-returns-then-not-is_narrow c =
-    let point : Point = record { mx = c.args.mx; nx = c.args.nx; my = c.args.my; ny = c.args.ny; w = c.args.w } in
-    let test : c.is_narrow.result ≡ narrow point = simp (c.is_narrow.ensures, out-is, c.ranges.mx, c.ranges.nx, c.ranges.my, c.ranges.ny, c.ranges.w) in
-    simp (sym test ∙ c.if-not-is_narrow.true)
+returns-then-not-is_narrow c = simp (sym c.is_narrow.ensures ∙ c.if-not-is_narrow.true)
 
 pub overflow_cast-full : goal.overflow_cast-full
 overflow_cast-full c =
-    let point : Point = record { mx = c.args.mx; nx = c.args.nx; my = c.args.my; ny = c.args.ny; w = c.args.w } in
-    let test : c.is_narrow.result ≡ narrow point = simp (c.is_narrow.ensures, out-is, c.ranges.mx, c.ranges.nx, c.ranges.my, c.ranges.ny, c.ranges.w) in
-    let narrow-here : narrow point ≡ true = sym test ∙ c.if-not-is_narrow.false in
-    let above : pos 0 <ℤ c.args.w = ((narrow-is point).0 narrow-here).in-w.above in
-    let w = out-is c.ranges.w ∙ nn-size (<-≤ above) in
-    subst (λ (z : ℤ). T (non_neg z) × Fits w64 (nat_abs z)) (sym w) (tt, record { fits = omega (arith, (of-fits c.ranges.w).within) })
+    let p = c.args.p in
+    let in-w = ((narrow-is p).0 (sym c.is_narrow.ensures ∙ c.if-not-is_narrow.false)).in-w in
+    let same : out p.w ≡ p.w = search rules in
+    let w = same ∙ nn-size (<-≤ in-w.above) in
+    subst (λ (z : ℤ). T (non_neg z) × Fits w64 (nat_abs z)) (sym w) (tt, record { fits = omega (arith, in-w.at_most.within) })
 
 pub returns : goal.returns
 returns c =
-    let point : Point = record { mx = c.args.mx; nx = c.args.nx; my = c.args.my; ny = c.args.ny; w = c.args.w } in
-    let test : c.is_narrow.result ≡ narrow point = simp (c.is_narrow.ensures, out-is, c.ranges.mx, c.ranges.nx, c.ranges.my, c.ranges.ny, c.ranges.w) in
-    let narrow-here : narrow point ≡ true = sym test ∙ c.if-not-is_narrow.false in
-    let above : pos 0 <ℤ c.args.w = ((narrow-is point).0 narrow-here).in-w.above in
-    let w = ap (λ (z : ℤ). pos (nat_abs z)) (out-is c.ranges.w) ∙ sym (nn-size (<-≤ above)) in
-    let mx = out-is c.ranges.mx in
-    let nx = out-is c.ranges.nx in
-    let my = out-is c.ranges.my in
-    let ny = out-is c.ranges.ny in
+    let p = c.args.p in
+    let narrow-here : narrow p ≡ true = sym c.is_narrow.ensures ∙ c.if-not-is_narrow.false in
+    let mx : out p.mx ≡ p.mx = search rules in
+    let nx : out p.nx ≡ p.nx = search rules in
+    let my : out p.my ≡ p.my = search rules in
+    let ny : out p.ny ≡ p.ny = search rules in
+    let same : out p.w ≡ p.w = search rules in
+    let w = ap (λ (z : ℤ). pos (nat_abs z)) same ∙ sym (nn-size (<-≤ ((narrow-is p).0 narrow-here).in-w.above)) in
     (λ i. ((c.is_edge.ensures ∙ (λ j. edge (mx j) (nx j) (w j))) i
     || (c.is_edge-2.ensures ∙ (λ j. edge (my j) (ny j) (w j))) i)
     && (c.is_in_square.ensures ∙ (λ j. in_square (mx j) (nx j) (w j))) i
     && (c.is_in_square-2.ensures ∙ (λ j. in_square (my j) (ny j) (w j))) i)
-    ∙ frame-rest point narrow-here
+    ∙ frame-rest p narrow-here

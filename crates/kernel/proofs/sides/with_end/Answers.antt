@@ -1,7 +1,7 @@
 -- `with_end` meets its contract: the far end is what they share where it is on the side.
 use mathlib.Core.Path.{ap}
 use Rattle.sheet.specs.Crossing.{none}
-use Rattle.kernel.proofs.Eight.{say}
+use Rattle.sheet.specs.Answers.{meeting_numbers}
 use Rattle.kernel.proofs.Ahead.{ahead-out, outward, on-end, off-end}
 use Rattle.kernel.proofs.sides.with_end.Goals as goal
 
@@ -14,9 +14,9 @@ far_end-e-requires c = ahead-out c.requires.ahead
 pub returns-then-is_on : goal.returns-then-is_on
 returns-then-is_on c =
     let h = c.requires in
-    ap say (on-end h.out h.ahead c.is_on.ensures none c.far_end-e.ensures c.if-is_on.true)
+    ap meeting_numbers (on-end h.out h.ahead c.is_on.ensures none c.far_end-e.ensures c.if-is_on.true)
 
 pub returns : goal.returns
 returns c =
     let h = c.requires in
-    ap say (off-end h.out h.ahead c.is_on.ensures none c.if-is_on.false)
+    ap meeting_numbers (off-end h.out h.ahead c.is_on.ensures none c.if-is_on.false)

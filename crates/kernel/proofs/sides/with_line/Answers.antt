@@ -8,8 +8,8 @@ use Rattle.whole.specs.Tests.{out-is}
 use Rattle.sheet.specs.Figure.{vec}
 use Rattle.sheet.specs.Ends.{far_end, reverse}
 use Rattle.sheet.specs.Crossing.{Meeting, none}
+use Rattle.sheet.specs.Answers.{meeting_numbers}
 use Rattle.kernel.specs.Stretches.{end_by}
-use Rattle.kernel.proofs.Eight.{say}
 use Rattle.kernel.proofs.Ahead.{four, ahead-out, outward, on-end, off-end}
 use Rattle.kernel.proofs.sides.with_line.Goals as goal
 
@@ -22,7 +22,7 @@ far_end-e-requires c = ahead-out c.requires.ahead
 pub returns-then-is_on : goal.returns-then-is_on
 returns-then-is_on c =
     let otherwise : Meeting = end_by c.args.ox c.args.oy (far_end (vec c.args.px c.args.py) (reverse (vec c.args.dx c.args.dy))) none in
-    ap say (on-end c.requires.out c.requires.ahead c.is_on.ensures otherwise c.far_end-e.ensures c.if-is_on.true)
+    ap meeting_numbers (on-end c.requires.out c.requires.ahead c.is_on.ensures otherwise c.far_end-e.ensures c.if-is_on.true)
 
 pub overflow_sub-back : goal.overflow_sub-back
 overflow_sub-back c = need (four c.requires.ahead) (lit 0 ⊖ var 2) tt
@@ -54,6 +54,6 @@ returns c =
     let back = gives b (lit 0 ⊖ var 2) tt ∙ +ℤ_idl (neg_ℤ c.args.dx) in
     let down = gives b (lit 0 ⊖ var 3) tt ∙ +ℤ_idl (neg_ℤ c.args.dy) in
     c.with_end.ensures
-    ∙ (λ i. say (end_by (out-is c.ranges.ox i) (out-is c.ranges.oy i)
+    ∙ (λ i. meeting_numbers (end_by (out-is c.ranges.ox i) (out-is c.ranges.oy i)
     (far_end (vec (out-is c.ranges.px i) (out-is c.ranges.py i)) (vec (back i) (down i))) none))
-    ∙ ap say (off-end c.requires.out c.requires.ahead c.is_on.ensures otherwise c.if-is_on.false)
+    ∙ ap meeting_numbers (off-end c.requires.out c.requires.ahead c.is_on.ensures otherwise c.if-is_on.false)

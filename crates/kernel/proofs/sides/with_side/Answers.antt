@@ -10,10 +10,11 @@ use Rattle.sheet.specs.Figure.{vec, Side, out_x, out_y, side_of}
 use Rattle.sheet.proofs.RefusalLaws.{Proper}
 use Rattle.sheet.specs.Ends.{far_end, reverse}
 use Rattle.sheet.specs.Crossing.{none}
+use Rattle.sheet.specs.Answers.{meeting_numbers}
 use Rattle.kernel.specs.Bounds.{Out}
 use Rattle.kernel.specs.Kinds.{a_pair}
 use Rattle.kernel.specs.Stretches.{end_by, sides_by, out_within, with-segment, with-ray, with-side, with-line}
-use Rattle.kernel.proofs.Eight.{dx_e, dy_e, say}
+use Rattle.kernel.proofs.Eight.{dx_e, dy_e}
 use Rattle.kernel.proofs.Ahead.{place, pair, way, ahead}
 use Rattle.kernel.proofs.sides.with_side.Goals as goal
 
@@ -25,7 +26,7 @@ both : {x y x' y' : ℤ} → x ≡ x' → y ≡ y' → Out x' y' → Out x y
 both e f h = record { box = subst (Within 1) (sym e) h.box; boy = subst (Within 1) (sym f) h.boy }
 
 pub returns-then-kind-eq-SEGMENT : goal.returns-then-kind-eq-SEGMENT
-returns-then-kind-eq-SEGMENT c = sym (ap say (with-segment (side_of c.args.n) c.requires (lit-taken 1 tt c.ranges.kind c.if-kind-eq-SEGMENT.true)))
+returns-then-kind-eq-SEGMENT c = sym (ap meeting_numbers (with-segment (side_of c.args.n) c.requires (lit-taken 1 tt c.ranges.kind c.if-kind-eq-SEGMENT.true)))
 
 pub sides-requires : goal.sides-requires
 sides-requires c =
@@ -42,8 +43,8 @@ returns-then-kind-eq-SIDE c =
     let oy-is : out c.out_y-oy.result ≡ out_y (side_of c.args.n) = over out_y c.ranges.n c.out_y-oy.type_inv c.out_y-oy.ensures in
     let ux-is : out c.out_x-ux.result ≡ out_x (side_of c.args.px) = over out_x c.ranges.px c.out_x-ux.type_inv c.out_x-ux.ensures in
     let uy-is : out c.out_y-uy.result ≡ out_y (side_of c.args.px) = over out_y c.ranges.px c.out_y-uy.type_inv c.out_y-uy.ensures in
-    c.sides.ensures ∙ (λ i. say (sides_by (ox-is i) (oy-is i) (ux-is i) (uy-is i)))
-    ∙ sym (ap say (with-side (side_of c.args.n) c.requires (lit-taken 4 tt c.ranges.kind c.if-kind-eq-SIDE.true)))
+    c.sides.ensures ∙ (λ i. meeting_numbers (sides_by (ox-is i) (oy-is i) (ux-is i) (uy-is i)))
+    ∙ sym (ap meeting_numbers (with-side (side_of c.args.n) c.requires (lit-taken 4 tt c.ranges.kind c.if-kind-eq-SIDE.true)))
 
 pub overflow_sub-dx : goal.overflow_sub-dx
 overflow_sub-dx c =
@@ -70,8 +71,8 @@ returns-then-kind-eq-RAY c =
     let proper : Proper (vec c.args.px c.args.py) (vec c.args.qx c.args.qy) = a_pair c.requires (eq-left c.if-kind-eq-SIDE.false) in
     let h = proper in
     c.with_end.ensures
-    ∙ (λ i. say (end_by (ox-is i) (oy-is i) (far_end (place h.small_p i) (way h i)) none))
-    ∙ sym (ap say (with-ray (side_of c.args.n) c.requires (lit-taken 2 tt c.ranges.kind c.if-kind-eq-RAY.true)))
+    ∙ (λ i. meeting_numbers (end_by (ox-is i) (oy-is i) (far_end (place h.small_p i) (way h i)) none))
+    ∙ sym (ap meeting_numbers (with-ray (side_of c.args.n) c.requires (lit-taken 2 tt c.ranges.kind c.if-kind-eq-RAY.true)))
 
 pub with_line-requires : goal.with_line-requires
 with_line-requires c =
@@ -91,6 +92,6 @@ returns c =
     let h = proper in
     let p = place h.small_p in
     c.with_line.ensures
-    ∙ (λ i. say (end_by (x i) (y i) (far_end (p i) (way h i)) (end_by (x i) (y i) (far_end (p i) (reverse (way h i))) none)))
-    ∙ sym (ap say (with-line (side_of c.args.n) c.requires
+    ∙ (λ i. meeting_numbers (end_by (x i) (y i) (far_end (p i) (way h i)) (end_by (x i) (y i) (far_end (p i) (reverse (way h i))) none)))
+    ∙ sym (ap meeting_numbers (with-line (side_of c.args.n) c.requires
     (eq-left c.if-kind-eq-SEGMENT.false) (eq-left c.if-kind-eq-RAY.false) (eq-left c.if-kind-eq-SIDE.false)))

@@ -1,39 +1,30 @@
--- `side_of` meets its contract: the first refusal of two is the definition's; where it is 0 `side_sign` takes the object and the point.
-use mathlib.Core.Path.{◌≡◌, sym, ◌∙◌, ap₂}
+-- `side_of` meets its contract: its checks in turn are the definition's; `side_sign` takes the object and the point that are not refused.
+use mathlib.Core.Path.{sym, ◌∙◌}
 use mathlib.Core.List.{[], ◌∷◌}
 use lib.IntN.{pos}
-use Rattle.whole.specs.Tests.{fits-ok, gave}
+use Rattle.whole.specs.Tests.{gave}
+use Rattle.sheet.specs.RefusedLaws.{err-first, err-says, ok-next, ok-says, says-from}
 use Rattle.sheet.specs.Signs.{side_sign_refusal}
-use Rattle.whole.specs.Choice.{or_else}
-use Rattle.sheet.specs.AnswersLaws.{says-refused, accepted, not_refused}
 use Rattle.kernel.specs.Accepts.{side-accepts}
 use Rattle.kernel.proofs.signs.side_of.Goals as goal
 
-pub returns-then-refusal-ne0 : goal.returns-then-refusal-ne0
+pub returns-in_err-check_object : goal.returns-in_err-check_object
 unfolding side_sign_refusal
-returns-then-refusal-ne0 c =
-    let refusal : c.or_else-refusal.result ≡ side_sign_refusal c.args.o c.args.s =
-    let o = c.object_refusal in
-    let s = c.check_point in
-    c.or_else-refusal.ensures ∙ ap₂ or_else (gave o.type_inv o.ensures.value) (gave s.type_inv s.ensures) in
-    says-refused _ (fits-ok c.or_else-refusal.result c.or_else-refusal.type_inv) refusal c.if-refusal-ne0.true
+returns-in_err-check_object c = says-from _ _ _ c.from_residual.ensures.1 ∙ err-says _ _ (err-first _ _ c.in_err-check_object.ensures.value)
+
+pub returns-in_err-check_point : goal.returns-in_err-check_point
+unfolding side_sign_refusal
+returns-in_err-check_point c =
+    says-from _ _ _ c.from_residual-in_err-check_point.ensures.1
+    ∙ err-says _ _ (c.in_err-check_point.ensures ∙ sym (ok-next _ c.in_ok-check_object.ensures.value))
 
 pub side_sign-requires : goal.side_sign-requires
 unfolding side_sign_refusal
 side_sign-requires c =
-    let refusal : c.or_else-refusal.result ≡ side_sign_refusal c.args.o c.args.s =
-    let o = c.object_refusal in
-    let s = c.check_point in
-    c.or_else-refusal.ensures ∙ ap₂ or_else (gave o.type_inv o.ensures.value) (gave s.type_inv s.ensures) in
-    let passed : side_sign_refusal c.args.o c.args.s ≡ pos 0 = not_refused c.or_else-refusal.type_inv refusal c.if-refusal-ne0.false in
-    side-accepts c.args.o c.args.s passed
+    side-accepts c.args.o c.args.s (ok-next _ c.in_ok-check_object.ensures.value ∙ sym c.in_ok-check_point.ensures)
 
 pub returns : goal.returns
 unfolding side_sign_refusal
 returns c =
-    let refusal : c.or_else-refusal.result ≡ side_sign_refusal c.args.o c.args.s =
-    let o = c.object_refusal in
-    let s = c.check_point in
-    c.or_else-refusal.ensures ∙ ap₂ or_else (gave o.type_inv o.ensures.value) (gave s.type_inv s.ensures) in
-    let passed : side_sign_refusal c.args.o c.args.s ≡ pos 0 = not_refused c.or_else-refusal.type_inv refusal c.if-refusal-ne0.false in
-    (λ i. pos 0 ∷ (gave c.side_sign.type_inv c.side_sign.ensures) i ∷ []) ∙ sym (accepted _ passed)
+    (λ i. pos 0 ∷ gave c.side_sign.type_inv c.side_sign.ensures i ∷ [])
+    ∙ ok-says _ (c.in_ok-check_point.ensures ∙ sym (ok-next _ c.in_ok-check_object.ensures.value))

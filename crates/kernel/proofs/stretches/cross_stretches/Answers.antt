@@ -5,11 +5,11 @@ use Rattle.whole.specs.Flat.{need, gives, eq-gives, ne-gives}
 use Rattle.whole.specs.Tests.{out}
 use Rattle.sheet.specs.Figure.{vec, ◌⇀◌}
 use Rattle.sheet.specs.Crossing.{Meeting, cross, together}
-use Rattle.sheet.specs.Answers.{crossing_says}
+use Rattle.sheet.specs.Answers.{meeting_numbers, crossing_numbers}
 use Rattle.kernel.specs.Stretches.{stretch}
 use Rattle.kernel.specs.Joints.{skew_kept, together_kept}
 use Rattle.kernel.specs.JointsLaws.{kept-skew, kept-apart, kept-together, touch-said}
-use Rattle.kernel.proofs.Eight.{dx_e, dy_e, fx_e, fy_e, ex_e, ey_e, across_e, say, near-out}
+use Rattle.kernel.proofs.Eight.{dx_e, dy_e, fx_e, fy_e, ex_e, ey_e, across_e, near-out}
 use Rattle.kernel.proofs.Handed.{by_ten}
 use Rattle.kernel.proofs.stretches.cross_stretches.Goals as goal
 
@@ -47,7 +47,7 @@ pub returns-then-across-ne0 : goal.returns-then-across-ne0
 returns-then-across-ne0 c =
     let a = c.args in
     let f = c.ranges in
-    c.skewed.ensures ∙ ap say (by_ten f.ka f.px f.py f.qx f.qy f.kb f.rx f.ry f.sx f.sy (skew_kept a.joints)
+    c.skewed.ensures ∙ ap meeting_numbers (by_ten f.ka f.px f.py f.qx f.qy f.kb f.rx f.ry f.sx f.sy (skew_kept a.joints)
     ∙ kept-skew a.joints a.ka a.px a.py a.qx a.qy a.kb a.rx a.ry a.sx a.sy
     (ne-gives c.requires.near across_e (lit 0) tt tt c.if-across-ne0.true))
 
@@ -70,7 +70,7 @@ pub returns-then-off-ne0 : goal.returns-then-off-ne0
 returns-then-off-ne0 c =
     let b = c.requires.near in
     let a = c.args in
-    ap say (kept-apart a.joints a.ka a.px a.py a.qx a.qy a.kb a.rx a.ry a.sx a.sy
+    ap meeting_numbers (kept-apart a.joints a.ka a.px a.py a.qx a.qy a.kb a.rx a.ry a.sx a.sy
     (eq-gives b across_e (lit 0) tt tt c.if-across-ne0.false) (ne-gives b off_e (lit 0) tt tt c.if-off-ne0.true))
 
 pub together-found-requires : goal.together-found-requires
@@ -84,9 +84,9 @@ returns c =
     let b = c.requires.near in
     let a = c.args in
     let f = c.ranges in
-    ap crossing_says c.unless_touch.ensures
+    ap crossing_numbers c.unless_touch.ensures
     ∙ touch-said a.joints (out a.ka) (out a.px) (out a.py) (out a.qx) (out a.qy)
     (out a.kb) (out a.rx) (out a.ry) (out a.sx) (out a.sy) shared c.together-found.result c.together-found.ensures
-    ∙ ap say (by_ten f.ka f.px f.py f.qx f.qy f.kb f.rx f.ry f.sx f.sy (together_kept a.joints)
+    ∙ ap meeting_numbers (by_ten f.ka f.px f.py f.qx f.qy f.kb f.rx f.ry f.sx f.sy (together_kept a.joints)
     ∙ kept-together a.joints a.ka a.px a.py a.qx a.qy a.kb a.rx a.ry a.sx a.sy
     (eq-gives b across_e (lit 0) tt tt c.if-across-ne0.false) (eq-gives b off_e (lit 0) tt tt c.if-off-ne0.false))

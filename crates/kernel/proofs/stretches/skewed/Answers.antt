@@ -12,10 +12,11 @@ use Rattle.whole.specs.Tests.{out, out-is}
 use Rattle.sheet.specs.Figure.{vec}
 use Rattle.sheet.specs.Points.{size, divided}
 use Rattle.sheet.specs.Crossing.{Stretch, none, point, meeting_point, reaches}
+use Rattle.sheet.specs.Answers.{meeting_numbers}
 use Rattle.kernel.specs.Stretches.{stretch, reaches_by, reaches-is}
 use Rattle.kernel.specs.Joints.{place_end, ends_meet, left_out}
 use Rattle.kernel.specs.JointsLaws.{none_said}
-use Rattle.kernel.proofs.Eight.{dx_e, dy_e, fx_e, fy_e, ex_e, ey_e, across_e, say, apart_out, stretch-out, times-sign-is, times-sign-size}
+use Rattle.kernel.proofs.Eight.{dx_e, dy_e, fx_e, fy_e, ex_e, ey_e, across_e, apart_out, stretch-out, times-sign-is, times-sign-size}
 use Rattle.kernel.proofs.stretches.skewed.Goals as goal
 
 abbrev one_e : Expr
@@ -73,7 +74,7 @@ returns-then-not-reaches c =
     let ends : Bool = ends_meet c.args.ka A c.args.kb B in
     let first : Bool = let D = ev ρ across_e in reaches A (sgn D *ℤ ev ρ one_e) (size D) in
     let second : Bool = let D = ev ρ across_e in reaches B (sgn D *ℤ ev ρ two_e) (size D) in
-    let shown : Bool → Bool → List ℤ = λ t u. say (left_out c.args.joints ends (cond (t && u) (point (divided (meeting_point A B))) none)) in
+    let shown : Bool → Bool → List ℤ = λ t u. meeting_numbers (left_out c.args.joints ends (cond (t && u) (point (divided (meeting_point A B))) none)) in
     let across-is : out c.args.across ≡ ev ρ across_e = out-is c.ranges.across ∙ c.requires.across_value in
     let h-is : out c.times_sign-h.result ≡ sgn (ev ρ across_e) *ℤ ev ρ one_e = times-sign-is c.times_sign-h.type_inv c.times_sign-h.ensures across-is (gives c.requires.apart.near.near one_e tt) in
     let w-is-size : out c.times_sign-w.result ≡ size (ev ρ across_e) = times-sign-size c.times_sign-w.type_inv c.times_sign-w.ensures across-is in
@@ -107,7 +108,7 @@ returns-then-not-reaches-2 c =
     let ends : Bool = ends_meet c.args.ka A c.args.kb B in
     let first : Bool = let D = ev ρ across_e in reaches A (sgn D *ℤ ev ρ one_e) (size D) in
     let second : Bool = let D = ev ρ across_e in reaches B (sgn D *ℤ ev ρ two_e) (size D) in
-    let shown : Bool → Bool → List ℤ = λ t u. say (left_out c.args.joints ends (cond (t && u) (point (divided (meeting_point A B))) none)) in
+    let shown : Bool → Bool → List ℤ = λ t u. meeting_numbers (left_out c.args.joints ends (cond (t && u) (point (divided (meeting_point A B))) none)) in
     let across-is : out c.args.across ≡ ev ρ across_e = out-is c.ranges.across ∙ c.requires.across_value in
     let h-is : out c.times_sign-h.result ≡ sgn (ev ρ across_e) *ℤ ev ρ one_e = times-sign-is c.times_sign-h.type_inv c.times_sign-h.ensures across-is (gives c.requires.apart.near.near one_e tt) in
     let w-is-size : out c.times_sign-w.result ≡ size (ev ρ across_e) = times-sign-size c.times_sign-w.type_inv c.times_sign-w.ensures across-is in
@@ -141,7 +142,7 @@ returns-then-leaves_place c =
     ∙ (λ i. not c.args.joints
     && (place_end (out-is c.ranges.ka i) (h-is i) (w-is-size i)
     && place_end (out-is c.ranges.kb i) (g-is i) (w-is-size i)))) in
-    let said : Bool → List ℤ = λ t. say (cond t none (cond (first && second) (point (divided (meeting_point A B))) none)) in
+    let said : Bool → List ℤ = λ t. meeting_numbers (cond t none (cond (first && second) (point (divided (meeting_point A B))) none)) in
     sym (ap said (left_is ∙ c.if-leaves_place.true))
 
 pub meeting_point-e-requires : goal.meeting_point-e-requires
@@ -182,4 +183,4 @@ returns-else-leaves_place c =
     let one = first-yes in
     let two = sym second_is ∙ c.if-not-reaches-2.false in
     let out = left_is ∙ c.if-leaves_place.false in
-    (λ i. say (point (e i))) ∙ sym (λ i. say (cond (out i) none (cond (one i && two i) (point (divided (meeting_point A B))) none)))
+    (λ i. meeting_numbers (point (e i))) ∙ sym (λ i. meeting_numbers (cond (out i) none (cond (one i && two i) (point (divided (meeting_point A B))) none)))

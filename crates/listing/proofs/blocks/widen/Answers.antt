@@ -1,9 +1,13 @@
--- `widen` meets its contract: by the one test that it makes.
-use Rattle.listing.specs.BlocksLaws.{widened-new, widened-old}
+-- `widen` meets its contract: the second number, the larger one, or the smaller one.
+use native.Mathlib.Omega.{arith}
+use Rattle.listing.specs.BlocksLaws.{widened-first, widened-up, widened-down}
 use Rattle.listing.proofs.blocks.widen.Goals as goal
 
-pub returns-then-first-old : goal.returns-then-first-old
-returns-then-first-old c = let a = c.args in widened-new a.larger a.first a.old a.new c.if-first-old.true
+pub returns-then-first : goal.returns-then-first
+returns-then-first c = widened-first c.if-first.true
 
-pub returns : goal.returns
-returns c = let a = c.args in widened-old a.larger a.first a.old a.new c.if-first-old.false
+pub returns-then-larger : goal.returns-then-larger
+returns-then-larger c = widened-up c.if-larger.true (omega (arith, c.max.ensures)) (omega (arith, c.max.ensures))
+
+pub returns-else-larger : goal.returns-else-larger
+returns-else-larger c = widened-down c.if-larger.false (omega (arith, c.min.ensures)) (omega (arith, c.min.ensures))

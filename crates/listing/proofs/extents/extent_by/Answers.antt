@@ -1,22 +1,17 @@
 -- `extent_by` meets its contract: the last end comes first exactly where it is left of the first.
-use mathlib.Core.Path.{◌≡◌, sym, subst, ◌∙◌}
-use Rattle.listing.specs.Marks.{mark_of, is_left_mark, Sound}
+use mathlib.Core.Path.{◌≡◌, sym, ◌∙◌}
+use Rattle.listing.specs.Marks.{mark_of, is_left_mark}
 use Rattle.listing.specs.ExtentsLaws.{extent-turned, extent-straight}
 use Rattle.listing.proofs.extents.extent_by.Goals as goal
 
-pub is_left-requires : goal.is_left-requires
-is_left-requires c =
-    let h = c.requires in
-    (subst Sound (sym c.mark_of-last.ensures) h.1, subst Sound (sym c.mark_of-first.ensures) h.0)
-
-pub returns-then-is_left : goal.returns-then-is_left
-returns-then-is_left c =
-    let tested : is_left_mark (mark_of c.args.q) (mark_of c.args.p) ≡ c.is_left.result = sym (c.is_left.ensures ∙ (λ i. is_left_mark (c.mark_of-last.ensures i) (c.mark_of-first.ensures i))) in
-    (λ i. record { left = c.mark_of-last.ensures i; right = c.mark_of-first.ensures i })
-    ∙ extent-turned _ _ (tested ∙ c.if-is_left.true)
+pub returns-then-is_left_of : goal.returns-then-is_left_of
+returns-then-is_left_of c =
+    let tested : is_left_mark (mark_of c.args.q) (mark_of c.args.p) ≡ c.is_left_of.result = sym (c.is_left_of.ensures ∙ (λ i. is_left_mark (c.from-last.ensures i) (c.from-first.ensures i))) in
+    (λ i. record { left = c.from-last.ensures i; right = c.from-first.ensures i })
+    ∙ extent-turned _ _ (tested ∙ c.if-is_left_of.true)
 
 pub returns : goal.returns
 returns c =
-    let tested : is_left_mark (mark_of c.args.q) (mark_of c.args.p) ≡ c.is_left.result = sym (c.is_left.ensures ∙ (λ i. is_left_mark (c.mark_of-last.ensures i) (c.mark_of-first.ensures i))) in
-    (λ i. record { left = c.mark_of-first.ensures i; right = c.mark_of-last.ensures i })
-    ∙ extent-straight _ _ (tested ∙ c.if-is_left.false)
+    let tested : is_left_mark (mark_of c.args.q) (mark_of c.args.p) ≡ c.is_left_of.result = sym (c.is_left_of.ensures ∙ (λ i. is_left_mark (c.from-last.ensures i) (c.from-first.ensures i))) in
+    (λ i. record { left = c.from-first.ensures i; right = c.from-last.ensures i })
+    ∙ extent-straight _ _ (tested ∙ c.if-is_left_of.false)

@@ -1,13 +1,7 @@
 -- `fill_highs` meets its contract: the second numbers before i are written, and the first ones stay.
-use mathlib.Core.Path.{◌≡◌}
-use Prim.Native.Nat.{◌-◌, ◌≤◌}
-use lib.ListN.{length}
 use Rattle.listing.specs.Order.{Lows, Highs}
 use Rattle.listing.proofs.spans.fill_highs.Given as goal
 
 abbrev pub invariant-loop-i : goal.invariant-loop-i
 invariant-loop-i l =
-    (l.i ≤ l.n) × (length l.spans ≡ length l.initial.spans) × Lows l.lefts l.order l.n l.spans 0 × Highs l.lefts l.rights l.order l.n l.spans l.i
-
-abbrev pub decreases-loop-i : goal.decreases-loop-i
-decreases-loop-i l = l.n - l.i
+    Lows l.lefts l.order l.n l.spans 0 × Highs l.lefts l.rights l.order l.n l.spans l.i

@@ -1,21 +1,32 @@
--- `with_object` meets its contract: a step by the object's own numbers.
-use mathlib.Core.Path.{sym, ◌∙◌, ap}
-use Rattle.whole.specs.Tests.{out, out-is, gave}
-use Rattle.sheet.specs.Figure.{Figure}
-use Rattle.kernel.proofs.Handed as handed
-use Rattle.screen.specs.Boxes.{standard_ends, farthest}
-use Rattle.screen.specs.ByNumber.{stepped}
-use Rattle.screen.specs.BoxesLaws.{ends-step}
+-- `with_object` meets its contract: a segment adds p and q, a ray p, and the others nothing.
+use Rattle.std.proofs.Common.{◌≡◌, ◌∙◌, ap, rules}
+use lib.IntN.{pos}
+use Rattle.whole.specs.Tests.{out}
+use Rattle.sheet.specs.Figure.{vec, first, second}
+use Rattle.screen.specs.Extremes.{with_end}
+use Rattle.screen.specs.BoxesLaws.{with_segment, with_ray, with_none}
 use Rattle.screen.proofs.boxes.with_object.Goals as goal
 
-pub returns : goal.returns
-returns c =
+pub returns-in-1 : goal.returns-in-1
+returns-in-1 c =
     let o = c.args.o in
-    let up = c.args.up in
-    let axis = c.args.axis in
-    let p = c.along-p in
-    let q = c.along-q in
-    gave c.step.type_inv c.step.ensures
-    ∙ (λ i. stepped up (out-is c.ranges.far i) (out o.kind) (gave p.type_inv p.ensures i) (gave q.type_inv q.ensures i))
-    ∙ sym (ends-step up axis c.args.far (out o.kind) (out o.px) (out o.py) (out o.qx) (out o.qy))
-    ∙ ap (λ (f : Figure). farthest up axis c.args.far (standard_ends f)) (handed.figure-told o c.struct_told-1.given)
+    let e = c.args.extremes in
+    let p : vec (out o.px) (out o.py) ≡ first o = search rules in
+    let q : vec (out o.qx) (out o.qy) ≡ second o = search rules in
+    let kind : o.kind ≡ pos 1 = search rules in
+    c.with_end-in-1.ensures
+    ∙ (λ i. with_end ((c.with_end.ensures ∙ ap (with_end e) p) i) (q i))
+    ∙ with_segment e o.px o.py o.qx o.qy kind
+
+pub returns-in-2 : goal.returns-in-2
+returns-in-2 c =
+    let o = c.args.o in
+    let e = c.args.extremes in
+    let p : vec (out o.px) (out o.py) ≡ first o = search rules in
+    let kind : o.kind ≡ pos 2 = search rules in
+    c.with_end-in-2.ensures ∙ ap (with_end e) p ∙ with_ray e o.px o.py o.qx o.qy kind
+
+pub returns-in_default : goal.returns-in_default
+returns-in_default c =
+    let o = c.args.o in
+    with_none c.args.extremes o.px o.py o.qx o.qy (λ k. search rules) (λ k. search rules)

@@ -1,9 +1,9 @@
 -- `read_objects` meets its contract: the objects that were read, in front of what is left to be read, are all of them.
 use mathlib.Core.Path.{◌≡◌}
 use mathlib.Core.List.{List, ◌++◌}
-use Prim.Native.Nat.{ℕ, ◌≤◌, ◌<◌}
+use Prim.Native.Nat.{ℕ, ◌-◌, ◌<◌}
 use lib.IntN.{ℤ}
-use lib.ListN.{length, drop}
+use lib.ListN.{length}
 use lib.Seq.{sets}
 use Rattle.sheet.specs.Lent.{Wrote}
 use Rattle.store.specs.declared.Form.{Form}
@@ -19,15 +19,11 @@ pub record Put (d out : List ℤ) (to : ℕ) (front : List ℤ) : Type 0 where
   pub cells : out ≡ sets d 0 front
   pub there : 0 < length d → Wrote d out 0 to front
 
--- left objects are still to be read from the place `at` of the bytes, and to be put at the place `to` of the list
-pub record Stands (f : Form) (count : ℕ) (bs : List ℕ) (d out : List ℤ) (left at to : ℕ) : Type 0 where
-  pub in_bytes : at ≤ length bs
+-- `done` objects are read: the others are those of the rest, and are to be put at the place `to` of the list
+pub record Stands (f : Form) (count : ℕ) (bs : List ℕ) (d out : List ℤ) (done : ℕ) (rest : List ℕ) (to : ℕ) : Type 0 where
   pub front : List ℤ
   pub put : Put d out to front
-  pub all : behind front (read_objects f left (drop at bs)) ≡ read_objects f count bs
+  pub all : behind front (read_objects f (count - done) rest) ≡ read_objects f count bs
 
-abbrev pub invariant-loop-left : goal.invariant-loop-left
-invariant-loop-left l = Stands l.form l.count l.bytes l.initial.out l.out l.left l.at l.to
-
-abbrev pub decreases-loop-left : goal.decreases-loop-left
-decreases-loop-left l = l.left
+abbrev pub invariant-loop : goal.invariant-loop
+invariant-loop l = Stands l.form l.count l.bytes l.initial.out l.out l.counter l.rest l.to

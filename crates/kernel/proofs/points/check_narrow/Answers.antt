@@ -1,8 +1,0 @@
--- `check_narrow` meets its contract: the five numbers that it hands on are the point's.
-use mathlib.Core.Path.{◌∙◌, ap}
-use Rattle.sheet.specs.Points.{narrow}
-use Rattle.kernel.proofs.Handed as handed
-use Rattle.kernel.proofs.points.check_narrow.Goals as goal
-
-pub returns : goal.returns
-returns c = c.is_narrow.ensures ∙ ap narrow (handed.point-told c.args.p c.struct_told-1.given)

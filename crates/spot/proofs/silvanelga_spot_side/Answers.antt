@@ -1,7 +1,0 @@
--- `silvanelga_spot_side` meets its contract: it is `of_sign` of what `side_of` answers.
-use mathlib.Core.Path.{◌∙◌, ap}
-use Rattle.spot.specs.Numbers.{answer_of}
-use Rattle.spot.proofs.silvanelga_spot_side.Goals as goal
-
-pub returns : goal.returns
-returns c = c.of_sign.ensures ∙ ap answer_of c.side_of.ensures
