@@ -1,18 +1,12 @@
 -- What reading a number answers, as its numbers. To cite:
 --   says-one       no two answers say the same
---   says-refused   the refusal that is said
 -- Assumes nothing.
-use Rattle.std.specs.Prelude.{◌≡◌, refl, Result, Ok, Err}
+use Rattle.std.specs.Prelude.{◌≡◌, Result, Ok, Err}
 use Rattle.std.proofs.Common.{sym, ap}
 use Rattle.sheet.specs.declared.refusal.Refusal.{Refusal}
-use Rattle.sheet.specs.Refused.{refused_by}
 use Rattle.sheet.specs.RefusedLaws.{no-one, no-zero}
 use Rattle.number.specs.declared.Number.{Number}
 use Rattle.number.specs.Number.{Said, number_says}
-
-pub says-refused : (r : Result Number Refusal) → (number_says r).refusal ≡ refused_by r
-says-refused (Ok n) = refl
-says-refused (Err e) = refl
 
 pub says-one : (r s : Result Number Refusal) → number_says r ≡ number_says s → r ≡ s
 says-one (Ok a) (Ok b) e = λ i. Ok (record { value = (e i).value; size = (e i).size })
