@@ -66,6 +66,14 @@ def functions(crate):
     return [one for file, text in sources(crate).items() for one in functions_of(file, text)]
 
 
+def derived(crate):
+    """The traits that the compiler writes for the types of a crate, by the folder that their methods have, as `refusal/RefusalDebug`."""
+    for file, text in sources(crate).items():
+        module = [] if file in ('src/lib.rt', 'src/main.rt') else file[len('src/'):-len('.rt')].split('/')
+        for found in re.finditer(r'#\[derive\(([^)]*)\)\]\s*(?:#\[[^\]]*\]\s*)*(?:pub(?:\s*\([^)]*\))?\s+)?(?:struct|enum)\s+(\w+)', plain(text)):
+            yield from ('/'.join([*module, found[2] + one]) for one in re.findall(r'\w+', found[1]))
+
+
 def crates(root):
     """The crates of crates.txt, each with what it stands on."""
     lines = [line.split('#')[0] for line in open(f'{root}/crates.txt')]

@@ -26,6 +26,32 @@ def proved(root):
     return {crate: '' for crate in re.findall(r'(?m)^rt: (\w+) is kept: ', log)} | dict(re.findall(r'(?ms)^== (\w+)\n(.*?)^rt: \1 proved$', log))
 
 
+def unread(root, crate, said):
+    """Of the functions that a crate's log tells to be proved those that do not stand in src/, and do not come from what stands there either: a
+    method of a derive, a closure, a function that is handed on by its name, a program's start. And whether the verdict counts as many as are told;
+    it counts no closure and no start."""
+    folder, counted = f'{root}/crates/{crate}', set()
+    read = {one.path.replace('/', '::') for one in source.functions(folder)}
+    derived = {one.replace('/', '::') for one in source.derived(folder)}
+    for name in dict.fromkeys(re.findall(rf'(?m)^fn {crate}::(\S+): proved\b', said)):
+        if name == 'main+run':
+            continue
+        closure, handed = re.fullmatch(r'((?:\w+::)*)fn::(\S+)', name), re.fullmatch(r'(?:\w+::)*(\S+?)\+Fn(?:Once|Mut)?::call\w*', name)
+        if closure:
+            known = any((closure[1] + closure[2]).startswith(f'{one}::') for one in read)
+        elif handed:
+            home, *rest = handed[1].split('++')
+            known = rest and (home not in source.crates(root) or '/'.join(rest) in {one.path for one in source.functions(f'{root}/crates/{home}')})
+        else:
+            known = name in read or name.rpartition('::')[0] in derived
+        counted |= set() if closure else {name}
+        if not known:
+            yield f'{crate}: {name} is proved, and stands in no file of src/'
+    for number in re.findall(r'(?m)^logic=proved functions=(\d+)', said):
+        if int(number) != len(counted):
+            yield f'{crate}: {number} functions are proved, and {len(counted)} are named'
+
+
 def assumptions(root):
     """What a crate takes without proof. The prover says so in its verdict (`foreign=`, `axioms=`) and refuses an `axiom` of its own language; `rt
     ci` refuses C functions. A library that asks the system takes over what the kit's libraries assume, without a word in its own verdict. It is
@@ -41,6 +67,7 @@ def assumptions(root):
             told = set(re.findall(r'(?m)^fn (\S+): proved$', said))
             yield from (f'{crate}: {one.path} is not among the functions that are proved' for one in source.functions(folder)
                         if one.body and f'{crate}::{one.path.replace("/", "::")}' not in told)
+            yield from unread(root, crate, said)
             if 'foreign=' in verdict or re.search(r'(?m)^fn .*: assumed', said):
                 yield f'{crate}: it assumes contracts of C functions'
         for taken in re.findall(r'(?m)^axioms (\w+): (?!none reached )', said):

@@ -8,7 +8,7 @@ ghost use Rattle.sheet.specs.Lists.{width, row_width};
 ghost use Rattle.store.specs.Stored.{read_drawing};
 ghost use Rattle.rowtext.specs.Put.{row_most};
 ghost use Rattle.stream.specs.Status.{MayTell};
-ghost use Rattle.list.specs.Asked.{of_most, rows_asked, ListsInput};
+ghost use Rattle.list.specs.Asked.{of_most, rows_asked, ListsInput, ToldOfAll};
 
 use sheet::Object;
 use sheet::refusal::Unfilled;
@@ -135,6 +135,7 @@ fn say_read<W: Write>(
     list: &[i64],
 ) -> Result<(), Unwritten>
     requires { out.old.whole ≡ true }
+    ensures { OnOk result (out.new.whole ≡ true) }
 {
     say_head(rt, out)?;
     match read {
@@ -153,7 +154,8 @@ fn say_drawing<W: Write>(
     bytes: &[u8],
 ) -> Status
     requires { out.old.whole ≡ true }
-    ensures { MayTell (read_drawing bytes.now).refusal result }
+    ensures tells { MayTell (read_drawing bytes.now).refusal result }
+    ensures whole { ToldOfAll result out.new.whole }
 {
     let mut list = [0i64; NUMBERS];
     let read = store::read_drawing(bytes, &mut list);
@@ -170,7 +172,8 @@ fn list_input<R: Read, W: Write>(
     out: &mut Output<'_, W>,
 ) -> Status
     requires { out.old.whole ≡ true }
-    ensures { IfSome (R.remaining from.old) (ListsInput result) }
+    ensures tells { IfSome (R.remaining from.old) (ListsInput result) }
+    ensures whole { ToldOfAll result out.new.whole }
 {
     let mut bytes = [0u8; store::LONGEST + 1];
     match read_bytes(rt, from, b"list: standard input", &mut bytes) {

@@ -76,6 +76,7 @@ pub fn list_near(list: &[i64], joints: bool, out: &mut [i64]) -> Result<Listed, 
         from: 0,
         to: list.len() / Object::WIDTH,
     };
-    let mut near = Near::new(list);
+    let mut near = Near::none();
+    near.know(list);
     list_pairs(&mut near, list, all, joints, out)
 }

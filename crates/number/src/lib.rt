@@ -7,7 +7,7 @@ ghost use Rattle.sheet.specs.Lent.{Wrote};
 ghost use Rattle.number.specs.Storable.{all_storable};
 ghost use Rattle.number.specs.Number.{group, most_groups, number_limit, largest_number, write_number, write_numbers, read_number, number_of, number_says};
 
-use sheet::lent::put_byte;
+use sheet::lent::{behind, put_byte};
 use sheet::refusal::Refusal;
 
 // A stored number and how many bytes it takes.
@@ -71,11 +71,15 @@ pub fn read_number(bytes: &[u8]) -> Result<Number, Refusal>
     Err(Refusal::BadNumber)
 }
 
-// Whether none of some numbers is too large.
+// Whether none of some numbers is too large. It goes over all of them, with no way out between as `all` has: so it takes less time.
 fn are_storable(numbers: &[u64]) -> bool
     ensures { result ≡ all_storable numbers.now }
 {
-    numbers.iter().all(|n| *n <= Number::LARGEST)
+    let mut small = true;
+    for &n in numbers {
+        small = small & (n <= Number::LARGEST);
+    }
+    small
 }
 
 // The smaller of a number and the largest that is stored.
@@ -125,13 +129,16 @@ pub fn stored_size(numbers: &[u64]) -> usize
 }
 
 // The bytes of a number at a place of lent bytes, as far as there are cells, and the place behind them. They are written to cells of their own
-// first, so that groups are known in one place.
+// first, so that groups are known in one place. Where no cell is left no byte's is looked for.
 fn put_number(n: u64, out: &mut [u8], at: usize) -> usize
     requires { n < number_limit }
     ensures { Wrote out.old out.new at result (write_number n) }
 {
     let mut own = [0; Number::MOST];
     let size = write_number(n, &mut own, 0);
+    if out.len() <= at {
+        return behind(at, size);
+    }
     let mut next = at;
     for &b in &own[..size] {
         next = put_byte(b, out, next);

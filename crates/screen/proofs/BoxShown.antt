@@ -185,7 +185,7 @@ module _ {l : List ℤ} (fine : Listable l) where
       go : (vs : List Vec) → places ≡ vs → BoxShown l (Ok (box_of places))
       go [] e =
           subst (λ (x : Option SheetBox). BoxShown l (Ok x)) (sym (ap box_of e))
-          (around_none z (λ p h. true≢false (sym (ap is_none e) ∙ some (end-place h).among)))
+          (around_none z (λ p h. true≢false (sym (ap is_none e) ∙ some (end-place h).among)) refl)
       go (v ∷ vs) e =
           subst (λ (x : Option SheetBox). BoxShown l (Ok x)) (sym (box-some places (ap is_none e)))
           (around z (encloses (ap is_none e))

@@ -19,6 +19,9 @@ use Rattle.screen.specs.declared.OnScreen.TheVariants as place
 use Rattle.screen.specs.declared.Position.{Position}
 use Rattle.screen.specs.declared.SheetBox.{SheetBox}
 use Rattle.screen.specs.Quotient.{quotient, Near}
+use Rattle.screen.specs.Quotient.{zero+}
+use Rattle.screen.specs.Values.{Values}
+use Rattle.screen.specs.Boxes.{boxed_says}
 use Rattle.screen.specs.Places.{goes_to, m_along, n_along}
 
 -- ---- a place
@@ -84,9 +87,12 @@ pub record Corner (x y : ℤ) (at : Position) : Type 0 where
   pub in_x : Shows x at.x
   pub in_y : Shows y at.y
 
+-- "with none, all four are +0 and a flag says so": 0 for no refusal, the flag, and the four
+abbrev pub no_box_said : Values
+no_box_said = record { wholes = pos 0 ∷ pos 1 ∷ []; floats = zero+ ∷ zero+ ∷ zero+ ∷ zero+ ∷ [] }
+
 pub data BoxShown (l : List ℤ) : Result (Option SheetBox) Refusal → Type 0 where
   box_refused : {r : Refusal} → no_of r ≡ list_refusal l → (no_of r ≡ pos 0 → ⊥) → BoxShown l (Err r)
-  around_none : list_refusal l ≡ pos 0 → ((p : Point) → StandardEnd l p → ⊥)
-      → BoxShown l (Ok None)
+  around_none : list_refusal l ≡ pos 0 → ((p : Point) → StandardEnd l p → ⊥) → boxed_says (Ok None) ≡ no_box_said → BoxShown l (Ok None)
   around : {lx ly hx hy : ℤ} {low high : Position} → list_refusal l ≡ pos 0 → Encloses l lx ly hx hy → Corner lx ly low → Corner hx hy high
       → BoxShown l (Ok (Some (record { low = low; high = high })))

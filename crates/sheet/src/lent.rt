@@ -23,14 +23,18 @@ pub fn put_byte(b: u8, out: &mut [u8], at: usize) -> usize
 }
 
 // As many of some numbers as there are cells. It stands apart, since few pieces meet the end of the cells: of the others, of which the compiler
-// knows how many numbers they are, the copy then stays in registers.
+// knows how many numbers they are, the copy then stays in registers. It goes over all numbers and asks of each whether it has a cell: of a copy
+// of so many the compiler makes a call of C's `memcpy`, which a library for C would then need from outside.
 #[cold]
 fn fill(cells: &mut [i64], numbers: &[i64])
     requires { length cells.old ≤ length numbers.now }
     ensures { cells.new ≡ take (length cells.old) numbers.now }
 {
-    let count = cells.len();
-    cells.copy_from_slice(&numbers[..count]);
+    for (i, &n) in numbers.iter().enumerate() {
+        if i < cells.len() {
+            cells[i] = n;
+        }
+    }
 }
 
 // Some numbers at a place of a lent list; places that it does not have are passed by.

@@ -13,7 +13,6 @@ use Rattle.sheet.specs.Refusal.{Accepted}
 use Rattle.sheet.specs.Lists.{width}
 use Rattle.sheet.specs.ListsLaws.{object-next}
 use Rattle.store.specs.declared.Bookmark.{Bookmark}
-use Rattle.store.specs.declared.Bookmark.TheVariants.{Start, In}
 use Rattle.store.specs.Reader.{Item, One, End, Refused, Step}
 use Rattle.number.specs.Number.{Reading, got, no}
 use Rattle.store.specs.declared.Form.{Form}
@@ -23,7 +22,7 @@ use Rattle.store.specs.Reader.{start_place, rest_begins, step_to, step_object, s
 use Rattle.store.proofs.SureLaws.{Sure, not-nought, sure-object, sure-head}
 use Rattle.store.proofs.SureLaws as sure
 use Rattle.store.proofs.ObjectsLaws.{objects-end, objects-over}
-use Rattle.store.specs.StepLaws.{first_call, step-in}
+use Rattle.store.specs.StepLaws.{first_call}
 
 -- ---- the items of a drawing
 
@@ -65,6 +64,11 @@ call_next : (bs : List ℕ) (p : Bookmark) (k : ℕ) → call_from bs p (suc k) 
 unfolding call_from
 call_next bs p k = refl
 
+step-begun : (bs : List ℕ) (f : Form) (left at : ℕ) → let p : Bookmark = record { begun = true; form = f; left = left; at = at } in step_of bs p
+    ≡ step_from bs p f left at
+unfolding step_of
+step-begun bs f left at = refl
+
 -- where the rest begins
 rest_at : (bs front rest : List ℕ) (at : ℕ) → at ≤ length bs → drop at bs ≡ front ++ rest
     → (rest_begins bs rest ≤ length bs) × (drop (rest_begins bs rest) bs ≡ rest)
@@ -103,10 +107,10 @@ runs f (suc left) bs at p h e k = go (sure-object f (drop at bs)) (runs f left b
         sym (first_call bs p) ∙ ap (λ (s : Step). s.item) e ∙ sym (item-first o (read_objects f left rest))
     go (sure.read o front rest g a) more e (suc k) =
         let there = rest_at bs front rest at h g in
-        let on : Bookmark = In f left (rest_begins bs rest) in
+        let on : Bookmark = record { begun = true; form = f; left = left; at = rest_begins bs rest } in
         call_next bs p k
         ∙ ap (λ (s : Step). call_from bs s.place k) e
-        ∙ more (rest_begins bs rest) on there.0 (step-in bs refl) k
+        ∙ more (rest_begins bs rest) on there.0 (step-begun bs f left (rest_begins bs rest)) k
         ∙ ap (λ (l : List ℕ). item_of (read_objects f left l) k) there.1
         ∙ sym (item-next o (read_objects f left rest) k)
 
@@ -143,8 +147,12 @@ kept-head bs p (no n) h = refl
 
 pub keeps : (bs : List ℕ) (p : Bookmark) → ((o : Object) → (step_of bs p).item ≡ One o → ⊥) → (step_of bs p).place ≡ p
 unfolding step_of
-keeps bs Start h = kept-head bs Start (read_head bs) h
-keeps bs (In f left at) h = kept_from bs (In f left at) f left at h
+keeps bs p h = go p.begun h
+  where
+    go : (t : Bool) → ((o : Object) → (cond t (step_from bs p p.form p.left p.at) (step_head bs p (read_head bs))).item ≡ One o → ⊥)
+        → (cond t (step_from bs p p.form p.left p.at) (step_head bs p (read_head bs))).place ≡ p
+    go true h = kept_from bs p p.form p.left p.at h
+    go false h = kept-head bs p (read_head bs) h
 
 -- ---- no two items say the same
 

@@ -1,13 +1,13 @@
 -- "Above the plain functions stands a reader that holds the lent bytes and its place, and gives one object per call." Definitions alone;
 -- what calling it again and again gives is in ReaderLaws.
-use Rattle.std.specs.Prelude.{cond, List, [], ◌∷◌, ℕ, zero, suc, ◌*◌, ◌-◌, ltb, ℤ, pos, length, drop}
+use Rattle.std.specs.Prelude.{cond, true, false, List, [], ◌∷◌, ℕ, zero, suc, ◌*◌, ◌-◌, ltb, ℤ, pos, length, drop}
 use Rattle.whole.specs.Flag.{eq_z}
 use Rattle.sheet.specs.declared.Object.{Object}
 use Rattle.sheet.specs.Answers.{object_numbers}
 use Rattle.sheet.specs.Lists.{width, object_at}
 use Rattle.store.specs.declared.Form.{Form}
+use Rattle.store.specs.declared.Form.TheVariants.{Old}
 use Rattle.store.specs.declared.Bookmark.{Bookmark}
-use Rattle.store.specs.declared.Bookmark.TheVariants.{Start, In}
 use Rattle.store.specs.declared.Reader.{Reader}
 use Rattle.number.specs.Number.{Reading, got, no}
 use Rattle.store.specs.Stored.{Drawing, read_object, read_head}
@@ -31,7 +31,7 @@ pub record Take : Type 0 where
 
 -- before the first call: "its first call also reads the count", and with it the form
 abbrev pub start_place : Bookmark
-start_place = Start
+start_place = record { begun = false; form = Old; left = 0; at = 0 }
 
 -- where the rest of the bytes begins
 abbrev pub rest_begins : List ℕ → List ℕ → ℕ
@@ -42,7 +42,7 @@ step_to i p = record { item = i; place = p }
 
 -- "end and refusal keep its place"
 abbrev pub step_object : List ℕ → Bookmark → Form → ℕ → Reading Object → Step
-step_object bs p f left (got o rest) = step_to (One o) (In f left (rest_begins bs rest))
+step_object bs p f left (got o rest) = step_to (One o) (record { begun = true; form = f; left = left; at = rest_begins bs rest })
 step_object bs p f left (no n) = step_to (Refused n) p
 
 -- one call at the place p, where left objects of the form f are left and the next one begins at `at`.
@@ -56,8 +56,7 @@ step_head bs p (got h rest) = step_from bs p h.form h.count (rest_begins bs rest
 step_head bs p (no n) = step_to (Refused n) p
 
 unfoldable pub step_of : List ℕ → Bookmark → Step
-step_of bs Start = step_head bs Start (read_head bs)
-step_of bs (In f left at) = step_from bs (In f left at) f left at
+step_of bs p = cond p.begun (step_from bs p p.form p.left p.at) (step_head bs p (read_head bs))
 
 -- a call of a reader: the same bytes, at the place after the step
 abbrev pub taken_of : Reader → Take

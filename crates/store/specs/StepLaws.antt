@@ -3,7 +3,7 @@
 --   step-over, step_end      after the last object
 --   step-refused, step-one   an object's refusal, and an object
 --   first_call               the first of several calls
---   step-in                    a call of a reader that is in the objects
+--   step-in                  a call of a reader that has begun
 --   head-refused, head-taken   the first call, by the form and the count
 -- Assumes nothing.
 use Rattle.std.specs.Prelude.{◌≡◌, Bool, true, false, List, leb, ℤ, length, take, drop}
@@ -14,7 +14,6 @@ use native.Mathlib.Omega.{arith}
 use Rattle.std.proofs.Math.IntN.{pos}
 use Rattle.sheet.specs.declared.Object.{Object}
 use Rattle.store.specs.declared.Bookmark.{Bookmark}
-use Rattle.store.specs.declared.Bookmark.TheVariants.{Start, In}
 use Rattle.store.specs.Reader.{One, End, Refused}
 use Rattle.store.specs.declared.Form.{Form}
 use Rattle.store.specs.Stored.{read_object, read_head}
@@ -64,7 +63,7 @@ module _ (bs : List ℕ) (p : Bookmark) (f : Form) (left at : ℕ) where
 
     pub step-one :
         {o : Object} {rest : List ℕ} → got o rest ≡ read_object f (drop s bs)
-        → step_from bs p f left at ≡ step_to (One o) (In f (left - 1) (rest_begins bs rest))
+        → step_from bs p f left at ≡ step_to (One o) (record { begun = true; form = f; left = left - 1; at = rest_begins bs rest })
     step-one t = here t
 
 -- the first of several calls
@@ -72,18 +71,16 @@ pub first_call : (bs : List ℕ) (p : Bookmark) → (step_of bs p).item ≡ call
 unfolding call_from
 first_call bs p = refl
 
-pub step-in : (bs : List ℕ) {p : Bookmark} {f : Form} {left at : ℕ} → p ≡ In f left at → step_of bs p ≡ step_from bs (In f left at) f left at
-unfolding step_of
-step-in bs b = ap (step_of bs) b
-
-module _ (bs : List ℕ) {p : Bookmark} (b : p ≡ Start) where
-  pub head-refused : {n : ℤ} → no n ≡ read_head bs → step_of bs p ≡ step_to (Refused n) p
+module _ (bs : List ℕ) (p : Bookmark) where
+  pub step-in : p.begun ≡ true → step_of bs p ≡ step_from bs p p.form p.left p.at
   unfolding step_of
-  head-refused {n} t = ap (step_of bs) b ∙ ap (step_head bs Start) (sym t) ∙ sym (ap (step_to (Refused n)) b)
+  step-in b = simp b
 
-  pub head-taken : {h : Head} {rest : List ℕ} → got h rest ≡ read_head bs → step_of bs p ≡ step_from bs p h.form h.count (rest_begins bs rest)
+  pub head-refused : {n : ℤ} → p.begun ≡ false → no n ≡ read_head bs → step_of bs p ≡ step_to (Refused n) p
   unfolding step_of
-  head-taken {h} {rest} t =
-      ap (step_of bs) b
-      ∙ ap (step_head bs Start) (sym t)
-      ∙ sym (ap (λ (q : Bookmark). step_from bs q h.form h.count (rest_begins bs rest)) b)
+  head-refused b t = simp b (ap (step_head bs p) (sym t))
+
+  pub head-taken : {h : Head} {rest : List ℕ} → p.begun ≡ false → got h rest ≡ read_head bs
+      → step_of bs p ≡ step_from bs p h.form h.count (rest_begins bs rest)
+  unfolding step_of
+  head-taken b t = simp b (ap (step_head bs p) (sym t))

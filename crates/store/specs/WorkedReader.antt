@@ -1,11 +1,10 @@
 -- Calls of the reader, one after another, worked out by document 01's words. A definition that says something else is refused here, whatever
 -- the code does.
-use Rattle.std.specs.Prelude.{◌≡◌, refl, List, [], ◌∷◌, map, ℕ, pos}
+use Rattle.std.specs.Prelude.{◌≡◌, refl, true, List, [], ◌∷◌, map, ℕ, pos}
 use Rattle.sheet.specs.Cases.{side}
 use Rattle.sheet.specs.Tags.{tagged}
 use Rattle.store.specs.declared.Form.TheVariants.{Old, New}
 use Rattle.store.specs.declared.Bookmark.{Bookmark}
-use Rattle.store.specs.declared.Bookmark.TheVariants.{In}
 use Rattle.store.specs.Reader.{Item, One, End, Refused}
 use Rattle.number.specs.Number.{value_of, needless, read_groups}
 use Rattle.store.specs.Forms.{read_tag}
@@ -24,7 +23,7 @@ abbrev new_sides : List ℕ
 new_sides = 232 ∷ 7 ∷ 2 ∷ 4 ∷ 0 ∷ 1 ∷ 4 ∷ 7 ∷ 2 ∷ []
 
 abbrev after_both : Bookmark
-after_both = In Old 0 5
+after_both = record { begun = true; form = Old; left = 0; at = 5 }
 
 pub record WorkedReader : Type 0 where
   -- "gives one object per call. Opening it never refuses; its first call also reads the count. After the last it says end"
@@ -40,8 +39,8 @@ pub record WorkedReader : Type 0 where
   no_count : four_calls [] ≡ Refused (pos 7) ∷ Refused (pos 7) ∷ Refused (pos 7) ∷ Refused (pos 7) ∷ []
   too_large_a_count : four_calls (129 ∷ 4 ∷ []) ≡ Refused (pos 11) ∷ Refused (pos 11) ∷ Refused (pos 11) ∷ Refused (pos 11) ∷ []
   places :
-      ((step_of two_sides start_place).place ≡ In Old 1 3)
-      × ((step_of two_sides (In Old 1 3)).place ≡ after_both) × ((step_of two_sides after_both).place ≡ after_both)
+      ((step_of two_sides start_place).place ≡ record { begun = true; form = Old; left = 1; at = 3 })
+      × ((step_of two_sides (record { begun = true; form = Old; left = 1; at = 3 })).place ≡ after_both) × ((step_of two_sides after_both).place ≡ after_both)
   place_kept : ((step_of [] start_place).place ≡ start_place) × ((step_of (0 ∷ []) start_place).place ≡ start_place)
   -- "The reader takes either form": sides 1 and 2 of tags 0 and 7 in the new form; at a refusal in it, and where the head ends, the place is kept
   new-form :
@@ -49,9 +48,9 @@ pub record WorkedReader : Type 0 where
       × (four_calls (232 ∷ 7 ∷ 2 ∷ 4 ∷ 0 ∷ 1 ∷ 4 ∷ 7 ∷ 5 ∷ []) ≡ One (side (pos 1)) ∷ Refused (pos 4) ∷ Refused (pos 4) ∷ Refused (pos 4) ∷ [])
       × (four_calls (232 ∷ 7 ∷ []) ≡ Refused (pos 7) ∷ Refused (pos 7) ∷ Refused (pos 7) ∷ Refused (pos 7) ∷ [])
   new-places :
-      ((step_of new_sides start_place).place ≡ In New 1 6)
+      ((step_of new_sides start_place).place ≡ record { begun = true; form = New; left = 1; at = 6 })
       × ((step_of (232 ∷ 7 ∷ 1 ∷ 9 ∷ []) start_place).place ≡ start_place)
-      × (step_of new_sides (In New 0 8) ≡ step_to (Refused (pos 9)) (In New 0 8))
+      × (step_of new_sides (record { begun = true; form = New; left = 0; at = 8 }) ≡ step_to (Refused (pos 9)) (record { begun = true; form = New; left = 0; at = 8 }))
   -- a drawing's objects in order, then its end or its refusal
   items :
       (map (item_of (read_drawing two_sides)) (0 ∷ 1 ∷ 2 ∷ 3 ∷ []) ≡ One (side (pos 1)) ∷ One (side (pos 2)) ∷ End ∷ End ∷ [])

@@ -127,11 +127,14 @@ pub fn move_drawing(bytes: &[u8], form: Form, out: &mut [u8]) -> Result<usize, U
     write_drawing(form, &list[..read.length], out)
 }
 
-// Where a reader is: before its first call; then in the objects, by the form, how many are left, and where the next one begins.
+// Where a reader is: whether the form and the count are read, the form, how many objects are left, and where the next one begins. A flag and
+// no enum: `step` and `next` are public and answer for every such value, and an enum has fewer.
 #[derive(Clone, Copy)]
-pub enum Bookmark {
-    Start,
-    In { form: Form, left: u64, at: usize },
+pub struct Bookmark {
+    pub begun: bool,
+    pub form: Form,
+    pub left: u64,
+    pub at: usize,
 }
 
 // What a call of the reader gives, an object, the end or the refusal, and the place after it.
@@ -178,7 +181,8 @@ fn step_from(bytes: &[u8], place: Bookmark, form: Form, left: u64, at: usize) ->
         },
         Ok(object) => Stepped {
             item: Ok(Some(object.value)),
-            place: Bookmark::In {
+            place: Bookmark {
+                begun: true,
                 form,
                 left: left - 1,
                 at: bytes.len() - object.rest.len(),
@@ -187,33 +191,43 @@ fn step_from(bytes: &[u8], place: Bookmark, form: Form, left: u64, at: usize) ->
     }
 }
 
-// The work of a reader's call: what stands at a place of bytes, and the place after it.
+// The work of a reader's call: what stands at a place of bytes, and the place after it. It is to be taken into its caller, hence the hint and the
+// one call of `step_from`: where a caller goes on from place to place, as the viewer does, no object is then made on the way.
+#[inline]
 pub fn step(bytes: &[u8], place: Bookmark) -> Stepped
     ensures { step_told result ≡ step_of bytes.now place }
 {
-    if let Bookmark::In { form, left, at } = place {
-        return step_from(bytes, place, form, left, at);
-    }
-    match read_head(bytes) {
-        Err(refusal) => Stepped {
-            item: Err(refusal),
-            place,
-        },
-        Ok(head) => step_from(
-            bytes,
-            place,
-            head.value.form,
-            head.value.count,
-            bytes.len() - head.rest.len(),
-        ),
-    }
+    let from = if place.begun {
+        place
+    } else {
+        match read_head(bytes) {
+            Err(refusal) => {
+                return Stepped {
+                    item: Err(refusal),
+                    place,
+                };
+            }
+            Ok(head) => Bookmark {
+                begun: true,
+                form: head.value.form,
+                left: head.value.count,
+                at: bytes.len() - head.rest.len(),
+            },
+        }
+    };
+    step_from(bytes, place, from.form, from.left, from.at)
 }
 
 // The place before the first call.
 pub fn start() -> Bookmark
     ensures { result ≡ start_place }
 {
-    Bookmark::Start
+    Bookmark {
+        begun: false,
+        form: Form::Old,
+        left: 0,
+        at: 0,
+    }
 }
 
 // A reader of bytes, before its first call. It never refuses.

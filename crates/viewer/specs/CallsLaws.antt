@@ -136,16 +136,17 @@ module _ (d : Drawing) (g : Listable d.objects) where
             let z : ◌≡◌ {A = ℕ} 0 1 = cc in
             absurd (omega arith)
 
-    -- and where it gives the end; a refusal it does not give
-    pub missed : End ≡ item_of d (nat_abs i) → index_refusal d i ≡ pos 13
+    -- and where it gives none
+    pub missed : ((o : Object) → item_of d (nat_abs i) ≡ One o → ⊥) → index_refusal d i ≡ pos 13
     unfolding item_of
-    missed e = go (ltb at (length d.objects)) (ltb-false at (length d.objects)) e
+    missed h = go (ltb at (length d.objects)) (ltb-false at (length d.objects)) h
       where
-        go : (t : Bool) → (t ≡ false → length d.objects ≤ at) → End ≡ cond t (One (object_at d.objects (nat_abs i))) (end_of d.refusal)
+        go : (t : Bool) → (t ≡ false → length d.objects ≤ at) → ((o : Object) → cond t (One (object_at d.objects (nat_abs i))) (end_of d.refusal) ≡ One o → ⊥)
             → index_refusal d i ≡ pos 13
-        go true y e = let no : ⊥ = cc in absurd no
-        go false y e = ap (index_refusal d) n.is ∙ index-past (nat_abs i) (omega (arith, y refl, g.whole))
+        go true y h = absurd (h (object_at d.objects (nat_abs i)) refl)
+        go false y h = ap (index_refusal d) n.is ∙ index-past (nat_abs i) (omega (arith, y refl, g.whole))
 
+    -- a refusal it does not give
     pub never-refused : {r : ℤ} → Refused r ≡ item_of d (nat_abs i) → ⊥
     unfolding item_of
     never-refused {r} e = go (ltb at (length d.objects)) e

@@ -8,7 +8,7 @@ use Rattle.sheet.specs.Refused.{unfilled_no}
 use Rattle.store.specs.declared.Read.{Read}
 use Rattle.store.specs.Answers.{ReadSays}
 use Rattle.store.specs.Told.{read_told}
-use Rattle.list.specs.ReadingLaws.{refusal_is, status-is}
+use Rattle.list.specs.ReadingLaws.{refusal_is, status-is, told-of-all}
 use Rattle.list.proofs.say_drawing.Goals as goal
 
 -- the number of what was not read, 0 for what was
@@ -16,8 +16,11 @@ number-told : (r : Result Read Unfilled) (o : Option Unfilled) (n : ℤ) → o �
 number-told (Ok a) o n e h = rw e at h
 number-told (Err u) o n e h = rw e at h
 
-pub returns : goal.returns
-returns g c =
+pub returns-clause-whole : goal.returns-clause-whole
+returns-clause-whole g c = told-of-all c.say_read-sent.result _ _ c.status_of.ensures c.say_read-sent.ensures
+
+pub returns-clause-tells : goal.returns-clause-tells
+returns-clause-tells g c =
     let read = ap (λ (r : ReadSays). r.refusal) c.read_drawing-read.ensures.answer ∙ refusal_is _ _ refl in
     let number = number-told c.read_drawing-read.result c.err.result c.map_or-refusal.result c.err.ensures.value c.map_or-refusal.ensures in
     let fit : Fit c.map_or-refusal.result = search rules in

@@ -4,8 +4,8 @@ use mathlib.Core.Path.{sym}
 use Rattle.listing.specs.ListingLaws.{all-section, all_listed, all-refused}
 use Rattle.listing.proofs.list_near.Goals as goal
 
-pub new-near-requires : goal.new-near-requires
-new-near-requires c = (all-section (sym c.in_ok-check_list.ensures)).list
+pub know-requires : goal.know-requires
+know-requires c = (all-section (sym c.in_ok-check_list.ensures)).list
 
 pub list_pairs-requires-clause-section : goal.list_pairs-requires-clause-section
 list_pairs-requires-clause-section c = all-section (sym c.in_ok-check_list.ensures)

@@ -1,6 +1,7 @@
 -- `put_number` meets its contract: the number's bytes are in cells of their own. The invariant: those before the next one are put.
-use Rattle.std.proofs.Common.{refl, sym, ap, ◌∙◌, arith, add-one, take-suc, take_all, ℕ, ◌<◌, List, [], ◌∷◌, ◌++◌, length, take, get_or}
-use Rattle.sheet.specs.LentLaws.{wrote_none, wrote-two, wrote_as, wrote-length}
+use Rattle.std.proofs.Common.{refl, sym, ap, ◌∙◌, arith, add-one, take-suc, take_all, ℕ, ◌+◌, ◌<◌, List, [], ◌∷◌, ◌++◌, length, take, get_or}
+use Rattle.sheet.specs.Lent.{clipped}
+use Rattle.sheet.specs.LentLaws.{wrote_none, wrote-past, wrote-two, wrote_as, wrote-length}
 use Rattle.number.specs.Number.{write_number}
 use Rattle.number.proofs.GroupsLaws.{number-most}
 use Rattle.number.proofs.WritingLaws.{own-bytes}
@@ -8,6 +9,11 @@ use Rattle.number.proofs.put_number.Goals as goal
 
 pub write_number-size-requires : goal.write_number-size-requires
 write_number-size-requires c = (c.requires, omega (arith, number-most c.args.n))
+
+pub returns-then-out-at : goal.returns-then-out-at
+returns-then-out-at c =
+    let o = own-bytes refl c.write_number-size.ensures in
+    wrote-past (omega arith) (omega (arith, c.if-out-at.true)) (c.behind.ensures ∙ ap (λ (k : ℕ). clipped (c.args.at + k)) o.long)
 
 pub slice_bounds-own-end : goal.slice_bounds-own-end
 slice_bounds-own-end c =

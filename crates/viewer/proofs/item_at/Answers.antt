@@ -20,7 +20,7 @@ loop-preserved c =
     let bs = c.args.bytes.now in
     let l = c.loop in
     let left = c.args.i - (l.counter + 1) in
-    ap (λ (s : Step). call_from bs s.place left) c.step-place.ensures
+    ap (λ (s : Step). call_from bs s.place left) c.step.ensures
     ∙ sym (call-more bs l.place {k = c.args.i - l.counter} {m = left} (omega arith))
     ∙ l.invariant
 
@@ -29,7 +29,7 @@ returns c =
     let bs = c.args.bytes.now in
     let l = c.loop in
     let done : 0 ≡ c.args.i - l.counter = omega arith in
-    ap (λ (s : Step). s.item) c.step.ensures
+    ap (λ (s : Step). s.item) c.step-2.ensures
     ∙ first_call bs l.place
     ∙ ap (call_from bs l.place) done
     ∙ l.invariant

@@ -15,7 +15,8 @@ use Rattle.std.specs.Prelude.{None, Some, Ok}
 use Rattle.sheet.specs.Signs.{side_sign}
 use Rattle.sheet.specs.Answers.{answer}
 use Rattle.store.specs.Stored.{Drawing, read_drawing}
-use Rattle.store.specs.Reader.{Item, item_of}
+use Rattle.sheet.specs.declared.Object.{Object}
+use Rattle.store.specs.Reader.{Item, One, End, item_of}
 use Rattle.store.specs.Told.{item_told}
 use Rattle.viewer.specs.Calls.{object, whole, place_refusal}
 use Rattle.store.proofs.SoundLaws.{good, item-accepted}
@@ -33,6 +34,10 @@ module _ {i : ℤ} (fits : SFits w64 i) where
   -- the reader's call is that of the index
   stands : (d : Drawing) {item : Item} → item ≡ item_of d (nat_abs (out i)) → item ≡ item_of d (nat_abs i)
   stands d e = e ∙ ap (λ (z : ℤ). item_of d (nat_abs z)) (out-is fits)
+
+-- the end is no object
+no-object : {item : Item} → End ≡ item → (o : Object) → item ≡ One o → ⊥
+no-object e o f = let both : End ≡ One o = e ∙ f in cc
 
 pub returns-then-i : goal.returns-then-i
 returns-then-i c =
@@ -63,7 +68,7 @@ returns-in_default c =
     let n = natural c.ranges.i c.if-i.false in
     let end : c.item_at.result ≡ Ok None = c.in_ok-o.was ∙ ap Ok c.in_default.is in
     err-says refusal.NoObject _
-    (index-first d a.i a.x a.y (missed d (good a.bytes.now z) z a.i n (ap item_told (sym end) ∙ stands c.ranges.i d c.item_at.ensures)))
+    (index-first d a.i a.x a.y (missed d (good a.bytes.now z) z a.i n (no-object (ap item_told (sym end) ∙ stands c.ranges.i d c.item_at.ensures))))
 
 pub side_for-requires : goal.side_for-requires
 side_for-requires c =
