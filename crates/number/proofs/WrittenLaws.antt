@@ -4,9 +4,9 @@
 --   numbers-few    the first of a list take no more than all
 --   numbers-sum    the bytes are as many as all numbers' together
 --   number-kept, number-first, number-alone   a number that is not too large is written as it is, in front of others and alone
---   small-more, small-each   whether the first of a list are small, and one more; each of a list that is small
+--   small-each     each of a list that is small
 -- Assumes nothing.
-use Rattle.std.specs.Prelude.{◌≡◌, refl, Bool, true, false, ◌&&◌, List, [], ◌∷◌, ◌++◌, ℕ, zero, suc, ◌+◌, ◌*◌, ◌<◌, ◌≤◌, min, leb, length, get_or, take, drop}
+use Rattle.std.specs.Prelude.{◌≡◌, refl, true, List, [], ◌∷◌, ◌++◌, ℕ, zero, suc, ◌+◌, ◌*◌, ◌<◌, ◌≤◌, min, leb, length, get_or, take, drop}
 use Rattle.std.proofs.Common.{sym, ◌∙◌, append_assoc, append-nil, add-one, arith, leb-true, length-append, take-append-drop, take-suc}
 use Rattle.std.proofs.Math.Path.{ap}
 use Rattle.std.specs.List.{sum_by}
@@ -68,28 +68,6 @@ module _ {n : ℕ} (h : n < number_limit) where
   number-alone = numbers-one n ∙ ap write_number number-kept
 
 -- ---- numbers of which none is too large
-
-small-two : (a b : List ℕ) → all_storable (a ++ b) ≡ (all_storable a && all_storable b)
-small-two [] b = refl
-small-two (n ∷ a) b = ap (λ (t : Bool). leb n largest_number && t) (small-two a b) ∙ sym (and_assoc (leb n largest_number) (all_storable a) (all_storable b))
-  where
-    and_assoc : (s t u : Bool) → ((s && t) && u) ≡ (s && (t && u))
-    and_assoc true t u = refl
-    and_assoc false t u = refl
-
-small_one : (n : ℕ) → all_storable (n ∷ []) ≡ leb n largest_number
-small_one n = go (leb n largest_number)
-  where
-    go : (t : Bool) → (t && true) ≡ t
-    go true = refl
-    go false = refl
-
-pub small-more : (ns : List ℕ) (i : ℕ) → i < length ns → all_storable (take (i + 1) ns) ≡ (all_storable (take i ns) && leb (get_or ns i 0) largest_number)
-small-more ns i h =
-    ap (λ (k : ℕ). all_storable (take k ns)) (add-one i)
-    ∙ ap all_storable (take-suc ns i 0 h)
-    ∙ small-two (take i ns) (get_or ns i 0 ∷ [])
-    ∙ ap (λ (t : Bool). all_storable (take i ns) && t) (small_one (get_or ns i 0))
 
 pub small-each : (ns : List ℕ) (i : ℕ) → all_storable ns ≡ true → i < length ns → get_or ns i 0 < number_limit
 small-each [] i e h = absurd (omega arith)
