@@ -22,7 +22,7 @@ use Rattle.store.specs.Reader.{start_place, rest_begins, step_to, step_object, s
 use Rattle.store.proofs.SureLaws.{Sure, not-nought, sure-object, sure-head}
 use Rattle.store.proofs.SureLaws as sure
 use Rattle.store.proofs.ObjectsLaws.{objects-end, objects-over}
-use Rattle.store.specs.StepLaws.{first_call}
+use Rattle.store.specs.StepLaws.{first_call, step-in}
 
 -- ---- the items of a drawing
 
@@ -63,11 +63,6 @@ stays bs p i e (suc k) = ap (λ (s : Step). call_from bs s.place k) e ∙ stays 
 call_next : (bs : List ℕ) (p : Bookmark) (k : ℕ) → call_from bs p (suc k) ≡ call_from bs (step_of bs p).place k
 unfolding call_from
 call_next bs p k = refl
-
-step-begun : (bs : List ℕ) (f : Form) (left at : ℕ) → let p : Bookmark = record { begun = true; form = f; left = left; at = at } in step_of bs p
-    ≡ step_from bs p f left at
-unfolding step_of
-step-begun bs f left at = refl
 
 -- where the rest begins
 rest_at : (bs front rest : List ℕ) (at : ℕ) → at ≤ length bs → drop at bs ≡ front ++ rest
@@ -110,7 +105,7 @@ runs f (suc left) bs at p h e k = go (sure-object f (drop at bs)) (runs f left b
         let on : Bookmark = record { begun = true; form = f; left = left; at = rest_begins bs rest } in
         call_next bs p k
         ∙ ap (λ (s : Step). call_from bs s.place k) e
-        ∙ more (rest_begins bs rest) on there.0 (step-begun bs f left (rest_begins bs rest)) k
+        ∙ more (rest_begins bs rest) on there.0 (step-in bs on refl) k
         ∙ ap (λ (l : List ℕ). item_of (read_objects f left l) k) there.1
         ∙ sym (item-next o (read_objects f left rest) k)
 
